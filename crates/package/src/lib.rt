@@ -1,0 +1,121 @@
+// The package's records, by value, and what its calls take and answer. Document 01, 'Units and stores'.
+ghost use mathlib.Core.Path.{_≡_};
+ghost use Rattle.package.specs.Fresh.{freshPackage};
+
+// The greatest number of each store; all are counted from 1.
+pub const PROBES: i64 = 3;
+
+pub const AXES: i64 = 3;
+
+pub const VALUES: i64 = 20;
+
+pub const TOOLS: i64 = 32;
+
+pub const OFFSETS: i64 = 4;
+
+// The range of each record: triggers and positions in u, wears and offsets in h.
+pub const TRIGGER_LIMIT: i64 = 100_000;
+
+pub const VALUE_LEAST: i64 = -32_768;
+
+pub const VALUE_GREATEST: i64 = 32_767;
+
+pub const WEAR_LIMIT: i64 = 2_000_000;
+
+pub const OFFSET_LIMIT: i64 = 20_000_000;
+
+pub const POSITION_LIMIT: i64 = 10_000_000;
+
+pub const TOLERANCE_LIMIT: i64 = 1_000_000;
+
+// Refusals by document 01's 'Alarm numbers'.
+pub const DONE: u32 = 0;
+
+pub const NO_ROOM: u32 = 1;
+
+pub const NO_SUCH_NUMBER: u32 = 2;
+
+pub const OUTSIDE_RANGE: u32 = 3;
+
+pub const BEYOND_TSA: u32 = 7;
+
+pub const LEAVES_RANGE: u32 = 9;
+
+// Six trigger values, and a bit for each direction calibrated.
+pub struct Probe {
+    pub triggers: [i32; 6],
+    pub status: u8,
+}
+
+// Empirical values EV and mean values MV.
+pub struct Memory {
+    pub empirical: [i16; 20],
+    pub means: [i16; 20],
+}
+
+// The two wears of a tool.
+pub struct Wear {
+    pub radius: i32,
+    pub length: i32,
+}
+
+// A zero offset on the three axes.
+pub struct Offset {
+    pub axes: [i32; 3],
+}
+
+pub struct Package {
+    pub probes: [Probe; 3],
+    pub memory: Memory,
+    pub tools: [Wear; 32],
+    pub offsets: [Offset; 4],
+}
+
+// What a calibration is given.
+pub struct Calibration {
+    pub probe: i64,
+    pub axis: i64,
+    pub direction: i64,
+    pub setpoint: i64,
+    pub raw: i64,
+    pub tzl: i64,
+    pub tsa: i64,
+}
+
+// The package that a call leaves, and its refusal number, 0 when done.
+pub struct Answer {
+    pub after: Package,
+    pub refusal: u32,
+}
+
+// A probe's status bits and the number of directions calibrated.
+pub struct Status {
+    pub refusal: u32,
+    pub bits: u32,
+    pub count: u32,
+}
+
+// The package with every record 0.
+pub fn fresh() -> Package
+    ensures { λ r. ⌜ r ≡ freshPackage ⌝ }
+{
+    let probe = Probe {
+        triggers: [0; 6],
+        status: 0,
+    };
+    let memory = Memory {
+        empirical: [0; 20],
+        means: [0; 20],
+    };
+    let wear = Wear {
+        radius: 0,
+        length: 0,
+    };
+    let offset = Offset { axes: [0; 3] };
+    Package {
+        probes: [probe; 3],
+        memory,
+        tools: [wear; 32],
+        offsets: [offset; 4],
+    }
+}

@@ -1,0 +1,8 @@
+pub mod Differences
+pub mod Sizes
+pub mod Expressions
+pub mod Ranges
+pub mod RangeLaws
+pub mod Table
+pub mod Rounding
+pub mod RoundingLaws
