@@ -1,8 +1,12 @@
 pub mod Stores
+pub mod StoreLaws
 pub mod Refusals
+pub mod RefusalLaws
 pub mod Settings
 pub mod Probes
 pub mod Calibration
 pub mod Status
 pub mod Block
+pub mod BlockLaws
 pub mod Calls
+pub mod CallLaws

@@ -1,0 +1,185 @@
+// Calibration and status of the probes. Document 01, 'Calibration'.
+use package::AXES;
+use package::Answer;
+use package::BEYOND_TSA;
+use package::Calibration;
+use package::DONE;
+use package::LEAVES_RANGE;
+use package::NO_SUCH_NUMBER;
+use package::OUTSIDE_RANGE;
+use package::POSITION_LIMIT;
+use package::PROBES;
+use package::Package;
+use package::Probe;
+use package::Status;
+use package::TOLERANCE_LIMIT;
+use package::TRIGGER_LIMIT;
+use signed::in_range;
+use signed::index;
+use signed::magnitude;
+use signed::nearest_in;
+ghost use mathlib.Core.Path.{_≡_};
+ghost use mathlib.Core.Bool.{true, _&&_};
+ghost use Prim.Native.Nat.{_≤_, _%_};
+ghost use lib.IntN.{pos};
+ghost use Rattle.signed.specs.Ranges.{size};
+ghost use Rattle.rules.specs.Stores.{axisNumber, directionNumber, triggerRange};
+ghost use Rattle.rules.specs.Refusals.{first};
+ghost use Rattle.rules.specs.Probes.{sign, placeOf, triggerOf, mark};
+ghost use Rattle.rules.specs.Calibration.{newTrigger, change, calibrationArguments, calibrationNumbers, calibrationPositions, calibrationLimits, calibratedProbe};
+ghost use Rattle.rules.specs.Status.{statusRead};
+ghost use Rattle.rules.specs.Calls.{answered, calibrate};
+
+// The trigger place of each axis and direction: axis 1 positive, negative, axis 2, axis 3.
+const PLACES: [usize; 6] = [2, 1, 4, 3, 6, 5];
+
+// The trigger place of an axis 1..3 and a direction 0 or 1. No call of a user.
+pub fn place_of(axis: i64, direction: i64) -> usize
+    requires { ⌜ (axisNumber axis ≡ true) × (directionNumber direction ≡ true) ⌝ }
+    ensures { λ r. ⌜ r ≡ placeOf axis direction ⌝ }
+{
+    let i = index(axis);
+    let d = direction as usize;
+    PLACES[2 * i + d]
+}
+
+// A probe's trigger on an axis 1..3 in a direction 0 or 1. No call of a user.
+pub fn trigger_of(x: Probe, axis: i64, direction: i64) -> i64
+    requires { ⌜ (axisNumber axis ≡ true) × (directionNumber direction ≡ true) ⌝ }
+    ensures { λ r. ⌜ r ≡ triggerOf x axis direction ⌝ }
+{
+    let place = place_of(axis, direction);
+    let t = x.triggers[place - 1];
+    nearest_in(t as i64, -TRIGGER_LIMIT, TRIGGER_LIMIT)
+}
+
+// s of a direction: 1 where it is positive, else -1.
+pub fn sign_of(direction: i64) -> i64
+    ensures { λ r. ⌜ r ≡ sign direction ⌝ }
+{
+    if direction == 0 {
+        return 1;
+    }
+    -1
+}
+
+// The six low bits of a status with the bit of a place 1..6 set.
+fn mark_place(status: u8, place: usize) -> u8
+    requires { ⌜ (1 ≤ place) × (place ≤ 6) ⌝ }
+    ensures { λ r. ⌜ r ≡ mark (status % 64) place ⌝ }
+{
+    (status % 64) | (1 << (place - 1))
+}
+
+fn numbers_ok(a: Calibration) -> bool
+    ensures { λ r. ⌜ r ≡ calibrationNumbers a ⌝ }
+{
+    in_range(a.probe, 1, PROBES) & in_range(a.axis, 1, AXES) & in_range(a.direction, 0, 1)
+}
+
+fn positions_ok(a: Calibration) -> bool
+    ensures { λ r. ⌜ r ≡ calibrationPositions a ⌝ }
+{
+    in_range(a.setpoint, -POSITION_LIMIT, POSITION_LIMIT)
+        & in_range(a.raw, -POSITION_LIMIT, POSITION_LIMIT)
+}
+
+fn limits_ok(a: Calibration) -> bool
+    ensures { λ r. ⌜ r ≡ calibrationLimits a ⌝ }
+{
+    (0 <= a.tzl) & ((a.tzl <= a.tsa) & (a.tsa <= TOLERANCE_LIMIT))
+}
+
+// The first refusal that the arguments alone give.
+fn arguments_refusal(a: Calibration) -> u32
+    ensures { λ r. ⌜ r ≡ first (calibrationArguments a) ⌝ }
+{
+    if !numbers_ok(a) {
+        return NO_SUCH_NUMBER;
+    }
+    if !positions_ok(a) {
+        return OUTSIDE_RANGE;
+    }
+    if !limits_ok(a) {
+        return OUTSIDE_RANGE;
+    }
+    DONE
+}
+
+// The new trigger t.
+fn new_trigger(a: Calibration) -> i64
+    requires { ⌜ calibrationPositions a ≡ true ⌝ }
+    ensures { λ r. ⌜ r ≡ newTrigger a ⌝ }
+{
+    sign_of(a.direction) * (a.setpoint - a.raw)
+}
+
+// The probe after a calibration with the new trigger t and the size |d| of its change.
+fn calibrated_probe(x: Probe, a: Calibration, t: i64, d: i64) -> Probe
+    requires { ⌜ calibrationNumbers a ≡ true ⌝ }
+    requires { ⌜ (t ≡ newTrigger a) × (triggerRange t ≡ true) ⌝ }
+    requires { ⌜ d ≡ size (change x a) ⌝ }
+    ensures { λ r. ⌜ r ≡ calibratedProbe x a ⌝ }
+{
+    let place = place_of(a.axis, a.direction);
+    let status = mark_place(x.status, place);
+    let mut triggers = x.triggers;
+    if a.tzl < d {
+        triggers[place - 1] = t as i32;
+        return Probe { triggers, status };
+    }
+    Probe { triggers, status }
+}
+
+// Calibrates one direction of a probe.
+pub fn calibrate(p: Package, a: Calibration) -> Answer
+    ensures { λ r. ⌜ r ≡ answered p (calibrate a) ⌝ }
+{
+    let refusal = arguments_refusal(a);
+    if refusal != DONE {
+        return Answer { after: p, refusal };
+    }
+    let i = index(a.probe);
+    let x = p.probes[i];
+    let t = new_trigger(a);
+    let d = magnitude(t - trigger_of(x, a.axis, a.direction));
+    if a.tsa < d {
+        return Answer {
+            after: p,
+            refusal: BEYOND_TSA,
+        };
+    }
+    if !in_range(t, -TRIGGER_LIMIT, TRIGGER_LIMIT) {
+        return Answer {
+            after: p,
+            refusal: LEAVES_RANGE,
+        };
+    }
+    let mut after = p;
+    after.probes[i] = calibrated_probe(x, a, t, d);
+    Answer {
+        after,
+        refusal: DONE,
+    }
+}
+
+// The bits of a probe's status and the number of directions calibrated.
+pub fn probe_status(p: Package, probe: i64) -> Status
+    ensures { λ r. ⌜ r ≡ statusRead p probe ⌝ }
+{
+    if !in_range(probe, 1, PROBES) {
+        return Status {
+            refusal: NO_SUCH_NUMBER,
+            bits: 0,
+            count: 0,
+        };
+    }
+    let i = index(probe);
+    let x = p.probes[i];
+    let bits = (x.status % 64) as u32;
+    Status {
+        refusal: DONE,
+        bits,
+        count: u32::count_ones(bits),
+    }
+}

@@ -1,0 +1,44 @@
+-- Laws of the refusals: what is known where no number applies, and the numbers of two lists of rules in a row.
+use mathlib.Core.Path.{_≡_, refl, ap}
+use mathlib.Core.Bool.{Bool, true, false, cond}
+use mathlib.Core.List.{List, [], _∷_, _++_}
+use Prim.Native.Nat.{ℕ, suc}
+use native.Mathlib.Omega.{arith}
+use Rattle.signed.specs.Table.{Each}
+use Rattle.rules.specs.Refusals.{Rule, first}
+
+-- every rule has a number that is not 0
+abbrev pub Numbered : List Rule → Type 0
+Numbered = Each (λ r. r .number ≡ 0 → ⊥)
+
+abbrev pub Passed : List Rule → Type 0
+Passed = Each (λ r. r .passed ≡ true)
+
+-- where no number applies, every rule passed
+pub all-passed : (rs : List Rule) → Numbered rs → first rs ≡ 0 → Passed rs
+all-passed [] n e = tt
+all-passed (r ∷ rs) n e = go (r .passed) refl (λ q. all-passed rs (n .1) q) e
+  where
+    go : (b : Bool) → r .passed ≡ b → (first rs ≡ 0 → Passed rs) → cond b (first rs) (r .number) ≡ 0 → (r .passed ≡ true) × Passed rs
+    go true q f e = (q, f e)
+    go false q f e = absurd (n .0 e)
+
+-- the first number of two lists in a row: of the second where none of the first applies
+pub first-later : (rs qs : List Rule) → Numbered rs → first rs ≡ 0 → first (rs ++ qs) ≡ first qs
+first-later [] qs n e = refl
+first-later (r ∷ rs) qs n e = go (r .passed) (λ q. first-later rs qs (n .1) q) e
+  where
+    go : (b : Bool) → (first rs ≡ 0 → first (rs ++ qs) ≡ first qs) → cond b (first rs) (r .number) ≡ 0 → cond b (first (rs ++ qs)) (r .number) ≡ first qs
+    go true f e = f e
+    go false f e = absurd (n .0 e)
+
+pub first-sooner : (rs qs : List Rule) (n : ℕ) → first rs ≡ suc n → first (rs ++ qs) ≡ suc n
+first-sooner [] qs n e = absurd (no n e)
+  where
+    no : (n : ℕ) → 0 ≡ suc n → ⊥
+    no n e = omega arith
+first-sooner (r ∷ rs) qs n e = go (r .passed) (first-sooner rs qs n) e
+  where
+    go : (b : Bool) → (first rs ≡ suc n → first (rs ++ qs) ≡ suc n) → cond b (first rs) (r .number) ≡ suc n → cond b (first (rs ++ qs)) (r .number) ≡ suc n
+    go true f e = f e
+    go false f e = e
