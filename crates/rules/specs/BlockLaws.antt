@@ -9,8 +9,14 @@ use lib.Dec.{T, ltb}
 use lib.IntN.{ℤ, pos, negsuc, _+ℤ_, _-ℤ_}
 use lib.ListN.{length, getD}
 use lib.Signed.{ltZ, mag}
-use borrow.Author.Tests.{lt-ltb, le-ltb, ltb-true, ltb-false}
-use Rattle.signed.specs.Table.{Each}
+use borrow.Author.Tests.{lt-ltb, le-ltb, le-leb, ltb-true, ltb-false}
+use mir.Syntax.{w16}
+use mir.Facts.{sfits-lit}
+use Rattle.signed.specs.Ranges.{minus}
+use Rattle.signed.specs.RangeLaws.{within-fits}
+use Rattle.lists.specs.Each.{Each}
+use Rattle.rules.specs.Stores.{valueRange}
+use Rattle.rules.specs.StoreLaws.{Store}
 use Rattle.rules.specs.Block.{twos, code, word, words, octets}
 
 -- 65536 less gives a negative number
@@ -89,27 +95,56 @@ octets-high (z ∷ zs) (suc i) = rw (add-one (2 * suc i), twice i, ← add-one (
 halves : (n : ℕ) → n % 256 + 256 * (n / 256) ≡ n
 halves n = omega arith
 
--- every value of a list is of 16 bits, every number of a list a byte
+-- the twenty values of a store, and the bytes of a list
 abbrev pub Values : List ℤ → Type 0
-Values = Each (λ z. mag z < 32768)
+Values = Store 20 (λ z. valueRange z ≡ true)
 
 abbrev pub Bytes : List ℕ → Type 0
 Bytes = Each (λ b. b < 256)
 
-pub words-octets : (zs : List ℤ) → Values zs → words (octets zs) ≡ zs
+value-small : (z : ℤ) → valueRange z ≡ true → mag z < 32768
+value-small z e = within-fits {w = w16} (minus 32768) (pos 32767) z (sfits-lit tt) (sfits-lit tt) e .sfits
+
+words-octets : (zs : List ℤ) → Each (λ z. valueRange z ≡ true) zs → words (octets zs) ≡ zs
 unfolding words octets
 words-octets [] h = refl
-words-octets (z ∷ zs) h = rw (halves (code z), twos-code z (h .0), words-octets zs (h .1))
+words-octets (z ∷ zs) h = rw (halves (code z), twos-code z (value-small z (h .0)), words-octets zs (h .1))
 
-pub octets-words : (n : ℕ) (bs : List ℕ) → length bs ≡ 2 * n → Bytes bs → octets (words bs) ≡ bs
+pub values-back : (zs : List ℤ) → Values zs → words (octets zs) ≡ zs
+values-back zs h = words-octets zs (h .entries)
+
+pub bytes-back : (n : ℕ) (bs : List ℕ) → length bs ≡ 2 * n → Bytes bs → octets (words bs) ≡ bs
 unfolding words octets
-octets-words zero [] e h = refl
-octets-words zero (a ∷ []) e h = absurd (omega arith)
-octets-words zero (a ∷ b ∷ bs) e h = absurd (omega arith)
-octets-words (suc n) [] e h = absurd (omega arith)
-octets-words (suc n) (a ∷ []) e h = absurd (omega arith)
-octets-words (suc n) (lo ∷ hi ∷ bs) e h =
+bytes-back zero [] e h = refl
+bytes-back zero (a ∷ []) e h = absurd (omega arith)
+bytes-back zero (a ∷ b ∷ bs) e h = absurd (omega arith)
+bytes-back (suc n) [] e h = absurd (omega arith)
+bytes-back (suc n) (a ∷ []) e h = absurd (omega arith)
+bytes-back (suc n) (lo ∷ hi ∷ bs) e h =
     let c = code-twos (lo + 256 * hi) (omega (arith, h .0, h .1 .0)) in
     let low : (lo + 256 * hi) % 256 ≡ lo = omega (arith, h .0) in
     let high : (lo + 256 * hi) / 256 ≡ hi = omega (arith, h .0) in
-    rw (c, low, high, octets-words n bs (omega arith) (h .1 .1))
+    rw (c, low, high, bytes-back n bs (omega arith) (h .1 .1))
+
+-- the values of 40 bytes are in range
+pos-value : (v : ℕ) → v < 32768 → valueRange (pos v) ≡ true
+pos-value v h = le-leb v 32767 (omega arith)
+
+neg-value : (v : ℕ) → v < 32768 → valueRange (negsuc v) ≡ true
+neg-value v h = rw (le-leb v 32767 (omega arith))
+
+word-value : (v : ℕ) → v < 65536 → valueRange (twos v) ≡ true
+word-value v h = go (ltb v 32768) refl
+  where
+    go : (b : Bool) → ltb v 32768 ≡ b → valueRange (twos v) ≡ true
+    go true e = let l = ltb-true v 32768 e in rw (twos-low v l) (pos-value v l)
+    go false e = let l = ltb-false v 32768 e in rw (twos-high v l h) (neg-value (65535 - v) (omega arith))
+
+each-word : (bs : List ℕ) → Bytes bs → Each (λ z. valueRange z ≡ true) (words bs)
+unfolding words
+each-word [] h = tt
+each-word (a ∷ []) h = tt
+each-word (lo ∷ hi ∷ bs) h = (word-value (lo + 256 * hi) (omega (arith, h .0, h .1 .0)), each-word bs (h .1 .1))
+
+pub words-values : (bs : List ℕ) → length bs ≡ 40 → Bytes bs → Values (words bs)
+words-values bs e h = record { long = length-words 20 bs e; entries = each-word bs h }

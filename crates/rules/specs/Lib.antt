@@ -10,3 +10,6 @@ pub mod Block
 pub mod BlockLaws
 pub mod Calls
 pub mod CallLaws
+pub mod InRange
+pub mod Changes
+pub mod BlockTheorems

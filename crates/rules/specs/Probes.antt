@@ -6,8 +6,7 @@ use Prim.Native.Nat.{ℕ, _-_, _/_, _%_, _^_}
 use lib.Bits.{bitOr}
 use lib.Dec.{eqb}
 use lib.IntN.{ℤ, pos, _+ℤ_, _-ℤ_, _*ℤ_}
-use Rattle.signed.specs.Ranges.{minus, nearestIn}
-use Rattle.signed.specs.Table.{eqZ}
+use Rattle.signed.specs.Ranges.{minus, nearestIn, eqZ}
 use Rattle.package.specs.declared.Probe.{Probe}
 use Rattle.rules.specs.Stores.{pick}
 

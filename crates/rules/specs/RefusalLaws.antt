@@ -1,15 +1,22 @@
 -- Laws of the refusals: what is known where no number applies, and the numbers of two lists of rules in a row.
-use mathlib.Core.Path.{_≡_, refl, ap}
+use mathlib.Core.Path.{_≡_, refl}
 use mathlib.Core.Bool.{Bool, true, false, cond}
 use mathlib.Core.List.{List, [], _∷_, _++_}
 use Prim.Native.Nat.{ℕ, suc}
 use native.Mathlib.Omega.{arith}
-use Rattle.signed.specs.Table.{Each}
+use lib.Dec.{T, ltb, ltb→lt}
+use mir.Facts.{and-yes}
+use Rattle.lists.specs.Each.{Each, every}
 use Rattle.rules.specs.Refusals.{Rule, first}
 
--- every rule has a number that is not 0
+-- every rule has a number that is not 0: a test, which `tt` passes
 abbrev pub Numbered : List Rule → Type 0
-Numbered = Each (λ r. r .number ≡ 0 → ⊥)
+Numbered rs = T (every (λ r. ltb 0 (r .number)) rs)
+
+numbered : (r : Rule) (rs : List Rule) → Numbered (r ∷ rs) → (r .number ≡ 0 → ⊥) × Numbered rs
+numbered r rs n =
+    let b = and-yes (ltb 0 (r .number)) (every (λ r. ltb 0 (r .number)) rs) n in
+    (λ e. omega (arith, ltb→lt 0 (r .number) (b .0)), b .1)
 
 abbrev pub Passed : List Rule → Type 0
 Passed = Each (λ r. r .passed ≡ true)
@@ -17,20 +24,20 @@ Passed = Each (λ r. r .passed ≡ true)
 -- where no number applies, every rule passed
 pub all-passed : (rs : List Rule) → Numbered rs → first rs ≡ 0 → Passed rs
 all-passed [] n e = tt
-all-passed (r ∷ rs) n e = go (r .passed) refl (λ q. all-passed rs (n .1) q) e
+all-passed (r ∷ rs) n e = go (r .passed) refl (all-passed rs (numbered r rs n .1)) e
   where
     go : (b : Bool) → r .passed ≡ b → (first rs ≡ 0 → Passed rs) → cond b (first rs) (r .number) ≡ 0 → (r .passed ≡ true) × Passed rs
     go true q f e = (q, f e)
-    go false q f e = absurd (n .0 e)
+    go false q f e = absurd (numbered r rs n .0 e)
 
 -- the first number of two lists in a row: of the second where none of the first applies
 pub first-later : (rs qs : List Rule) → Numbered rs → first rs ≡ 0 → first (rs ++ qs) ≡ first qs
 first-later [] qs n e = refl
-first-later (r ∷ rs) qs n e = go (r .passed) (λ q. first-later rs qs (n .1) q) e
+first-later (r ∷ rs) qs n e = go (r .passed) (first-later rs qs (numbered r rs n .1)) e
   where
     go : (b : Bool) → (first rs ≡ 0 → first (rs ++ qs) ≡ first qs) → cond b (first rs) (r .number) ≡ 0 → cond b (first (rs ++ qs)) (r .number) ≡ first qs
     go true f e = f e
-    go false f e = absurd (n .0 e)
+    go false f e = absurd (numbered r rs n .0 e)
 
 pub first-sooner : (rs qs : List Rule) (n : ℕ) → first rs ≡ suc n → first (rs ++ qs) ≡ suc n
 first-sooner [] qs n e = absurd (no n e)

@@ -3,6 +3,5 @@ pub mod Sizes
 pub mod Expressions
 pub mod Ranges
 pub mod RangeLaws
-pub mod Table
 pub mod Rounding
 pub mod RoundingLaws

@@ -15,6 +15,10 @@ use Rattle.signed.specs.Ranges.{within, nearestIn}
 pub true-T : {b : Bool} → b ≡ true → T b
 true-T e = subst T (sym e) tt
 
+pub both-true : {a b : Bool} → a && b ≡ true → (a ≡ true) × (b ≡ true)
+both-true {a = true} e = (refl, e)
+both-true {a = false} e = absurd (subst T (sym e) tt)
+
 -- ---- a comparison of two numbers
 pub lt-taken : {a b : ℤ} → ltZ a b ≡ true → a <ℤ b
 lt-taken e = ltZ-yes (true-T e)

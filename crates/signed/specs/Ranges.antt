@@ -1,7 +1,8 @@
--- Ranges of whole numbers, as tests.
-use mathlib.Core.Bool.{Bool, cond, _&&_}
+-- Tests of whole numbers.
+use mathlib.Core.Bool.{Bool, false, cond, _&&_}
 use Prim.Native.Nat.{ℕ}
-use lib.IntN.{ℤ, pos, negℤ, natAbs}
+use lib.Dec.{eqb}
+use lib.IntN.{ℤ, pos, negsuc, negℤ, natAbs}
 use lib.Signed.{leZ, ltZ}
 
 -- -n, for a literal: `minus 7`
@@ -19,3 +20,9 @@ size z = pos (natAbs z)
 -- the number of lo..hi that is nearest to z
 unfoldable pub nearestIn : ℤ → ℤ → ℤ → ℤ
 nearestIn lo hi z = cond (ltZ z lo) lo (cond (ltZ hi z) hi z)
+
+abbrev pub eqZ : ℤ → ℤ → Bool
+eqZ (pos a) (pos b) = eqb a b
+eqZ (pos a) (negsuc b) = false
+eqZ (negsuc a) (pos b) = false
+eqZ (negsuc a) (negsuc b) = eqb a b
