@@ -32,6 +32,12 @@ module _ {A : Type 0} (P : A → Type 0) where
   each-at (x ∷ xs) zero d h l = h .0
   each-at (x ∷ xs) (suc i) d h l = each-at xs i d (h .1) (le-of-suc-le-suc l)
 
+  -- at any index, where P holds of what stands past the end
+  pub each-getD : (xs : List A) (i : ℕ) (d : A) → P d → Each P xs → P (getD xs i d)
+  each-getD [] i d p h = p
+  each-getD (x ∷ xs) zero d p h = h .0
+  each-getD (x ∷ xs) (suc i) d p h = each-getD xs i d p (h .1)
+
   pub each-replicate : (n : ℕ) (a : A) → P a → Each P (replicate n a)
   each-replicate zero a p = tt
   each-replicate (suc n) a p = (p, each-replicate n a p)

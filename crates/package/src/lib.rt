@@ -82,6 +82,77 @@ pub struct Calibration {
     pub tsa: i64,
 }
 
+// What a kind of measurement touches: one surface, a pair on axis 1 or 2, or a pair on each of both.
+pub enum Form {
+    Plane,
+    Single,
+    Double,
+}
+
+// A kind of measurement: inside kinds touch low in the negative direction, outside kinds in the positive.
+pub struct Kind {
+    pub form: Form,
+    pub inside: bool,
+}
+
+// What both ways of measuring are given: c1 and c2 are set centres, r1 to r4 raws.
+pub struct Probing {
+    pub kind: i64,
+    pub probe: i64,
+    pub axis: i64,
+    pub direction: i64,
+    pub setpoint: i64,
+    pub c1: i64,
+    pub c2: i64,
+    pub r1: i64,
+    pub r2: i64,
+    pub r3: i64,
+    pub r4: i64,
+}
+
+pub struct Limits {
+    pub tzl: i64,
+    pub tmv: i64,
+    pub tul: i64,
+    pub tll: i64,
+    pub tdif: i64,
+    pub tsa: i64,
+}
+
+// What a measurement with tool offset is given; k is the weighting factor.
+pub struct ToolMeasurement {
+    pub part: Probing,
+    pub tool: i64,
+    pub ev: i64,
+    pub mv: i64,
+    pub k: i64,
+    pub limits: Limits,
+}
+
+// What a measurement with zero offset is given.
+pub struct ZeroMeasurement {
+    pub part: Probing,
+    pub offset: i64,
+    pub tsa: i64,
+}
+
+// The branches of a measurement with tool offset, by document 01's numbers.
+pub enum Branch {
+    One,
+    Two,
+    Three,
+    Four,
+    Five,
+}
+
+// The package that a measurement leaves, its refusal number, and branch and verdict, both 0 when refused.
+pub struct Measured {
+    pub after: Package,
+    pub refusal: u32,
+    pub branch: u32,
+    pub verdict: u32,
+}
+
 // The package that a call leaves, and its refusal number, 0 when done.
 pub struct Answer {
     pub after: Package,

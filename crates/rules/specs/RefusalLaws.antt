@@ -1,13 +1,16 @@
 -- Laws of the refusals: what is known where no number applies, and the numbers of two lists of rules in a row.
 use mathlib.Core.Path.{_≡_, refl}
-use mathlib.Core.Bool.{Bool, true, false, cond}
+use mathlib.Core.Bool.{Bool, true, false, cond, _&&_}
 use mathlib.Core.List.{List, [], _∷_, _++_}
 use Prim.Native.Nat.{ℕ, suc}
 use native.Mathlib.Omega.{arith}
 use lib.Dec.{T, ltb, ltb→lt}
+use lib.IntN.{ℤ}
+use lib.Signed.{_≤ℤ_, leZ, leZ-yes}
 use mir.Facts.{and-yes}
+use Rattle.signed.specs.RangeLaws.{true-T, both}
 use Rattle.lists.specs.Each.{Each, every}
-use Rattle.rules.specs.Refusals.{Rule, first}
+use Rattle.rules.specs.Refusals.{Rule, first, rising}
 
 -- every rule has a number that is not 0: a test, which `tt` passes
 abbrev pub Numbered : List Rule → Type 0
@@ -49,3 +52,28 @@ first-sooner (r ∷ rs) qs n e = go (r .passed) (first-sooner rs qs n) e
     go : (b : Bool) → (first rs ≡ suc n → first (rs ++ qs) ≡ suc n) → cond b (first rs) (r .number) ≡ suc n → cond b (first (rs ++ qs)) (r .number) ≡ suc n
     go true f e = f e
     go false f e = e
+
+-- ---- tests that passed: a && b && c && .., written as the first and the rest, and a chain of limits
+abbrev pub joined : Bool → List Bool → Bool
+joined b [] = b
+joined b (c ∷ cs) = joined (b && c) cs
+
+pub all-of : (b : Bool) (cs : List Bool) → joined b cs ≡ true → (b ≡ true) × Each (λ c. c ≡ true) cs
+all-of b [] e = (e, tt)
+all-of b (c ∷ cs) e =
+    let t = all-of (b && c) cs e in
+    let u = both b c (t .0) in
+    (u .0, (u .1, t .1))
+
+abbrev pub Rising : List ℤ → Type 0
+Rising [] = Unit {0}
+Rising (x ∷ []) = Unit {0}
+Rising (x ∷ y ∷ zs) = (x ≤ℤ y) × Rising (y ∷ zs)
+
+pub rising-is : (xs : List ℤ) → rising xs ≡ true → Rising xs
+rising-is [] e = tt
+rising-is (x ∷ []) e = tt
+rising-is (x ∷ y ∷ []) e = (leZ-yes (true-T e), tt)
+rising-is (x ∷ y ∷ z ∷ zs) e =
+    let t = both (leZ x y) (rising (y ∷ z ∷ zs)) e in
+    (leZ-yes (true-T (t .0)), rising-is (y ∷ z ∷ zs) (t .1))

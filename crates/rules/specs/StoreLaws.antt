@@ -11,7 +11,7 @@ use lib.Seq.{getD-set-other}
 use borrow.Author.Tests.{eqb-false}
 use Rattle.signed.specs.Ranges.{within, eqZ}
 use Rattle.signed.specs.RangeLaws.{true-T, below-top}
-use Rattle.lists.specs.Each.{Each, each-set, each-at, each-replicate}
+use Rattle.lists.specs.Each.{Each, each-set, each-at, each-getD, each-replicate}
 use Rattle.rules.specs.Stores.{pick, put}
 
 -- a store of n entries, of each of which P holds
@@ -23,6 +23,11 @@ differ : (i j : ℕ) → eqb (suc i) (suc j) ≡ false → i ≡ j → ⊥
 differ i j e q = eqb-false (suc i) (suc j) e (ap suc q)
 
 module _ {A : Type 0} where
+  pub length-put : (xs : List A) (n : ℤ) (a : A) → length (put xs n a) ≡ length xs
+  length-put xs (pos zero) a = refl
+  length-put xs (pos (suc i)) a = length-set xs i a
+  length-put xs (negsuc i) a = refl
+
   -- the entries with another number stay
   pub pick-other : (d : A) (xs : List A) (m n : ℤ) (a : A) → eqZ m n ≡ false → pick d (put xs n a) m ≡ pick d xs m
   pick-other d xs m (pos zero) a e = refl
@@ -42,6 +47,12 @@ module _ {A : Type 0} {P : A → Type 0} where
   pick-store d (pos zero) s e = absurd (true-T e)
   pick-store {n} {xs} d (pos (suc i)) s e = each-at P xs i d (s .entries) (omega (arith, below-top i n e, s .long))
   pick-store d (negsuc i) s e = absurd (true-T e)
+
+  -- the entry with any number, where P holds of what none names
+  pub pick-any : {n : ℕ} {xs : List A} (d : A) (m : ℤ) → P d → Store n P xs → P (pick d xs m)
+  pick-any d (pos zero) p s = p
+  pick-any {n} {xs} d (pos (suc i)) p s = each-getD P xs i d p (s .entries)
+  pick-any d (negsuc i) p s = p
 
   pub replicate-store : (n : ℕ) (a : A) → P a → Store n P (replicate n a)
   replicate-store n a p = record { long = length-replicate n a; entries = each-replicate P n a p }

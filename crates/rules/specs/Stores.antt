@@ -44,9 +44,12 @@ toolNumber = within (pos 1) (pos 32)
 abbrev pub offsetNumber : ℤ → Bool
 offsetNumber = within (pos 1) (pos 4)
 
--- ---- ranges: positions and triggers in u, empirical and mean values in u, wears and offsets in h
+-- ---- ranges: positions, widths and triggers in u, empirical and mean values in u, wears and offsets in h
 abbrev pub positionRange : ℤ → Bool
 positionRange = within (minus 10000000) (pos 10000000)
+
+abbrev pub widthRange : ℤ → Bool
+widthRange = within (pos 1) (pos 10000000)
 
 abbrev pub triggerRange : ℤ → Bool
 triggerRange = within (minus 100000) (pos 100000)

@@ -15,9 +15,9 @@ use Rattle.signed.specs.Ranges.{within, nearestIn}
 pub true-T : {b : Bool} → b ≡ true → T b
 true-T e = subst T (sym e) tt
 
-pub both-true : {a b : Bool} → a && b ≡ true → (a ≡ true) × (b ≡ true)
-both-true {a = true} e = (refl, e)
-both-true {a = false} e = absurd (subst T (sym e) tt)
+pub both : (a b : Bool) → a && b ≡ true → (a ≡ true) × (b ≡ true)
+both true b e = (refl, e)
+both false b e = absurd (true-T e)
 
 -- ---- a comparison of two numbers
 pub lt-taken : {a b : ℤ} → ltZ a b ≡ true → a <ℤ b
@@ -26,11 +26,38 @@ lt-taken e = ltZ-yes (true-T e)
 pub lt-left : {a b : ℤ} → ltZ a b ≡ false → b ≤ℤ a
 lt-left e = ltZ-no (subst (λ t. T (not t)) (sym e) tt)
 
+pub ≤ℤ-trans : (a b c : ℤ) → a ≤ℤ b → b ≤ℤ c → a ≤ℤ c
+≤ℤ-trans = parts₃ _ (λ a b c d e f. simp ints (omega arith))
+
+lt-le : (a b : ℤ) → a <ℤ b → a ≤ℤ b
+lt-le = parts₂ _ (λ a b c d. simp ints (omega arith))
+
+not-le : (a b : ℤ) → T (not (leZ a b)) → T (ltZ b a)
+not-le (pos a) (pos b) t = lt→ltb b a (nleb→lt a b t)
+not-le (pos a) (negsuc b) t = tt
+not-le (negsuc a) (pos b) t = absurd t
+not-le (negsuc a) (negsuc b) t = lt→ltb a b (nleb→lt b a t)
+
+-- by which of two numbers is the smaller
+pub by-order : (a b : ℤ) (P : Bool → Type 0) → (a ≤ℤ b → P true) → (b ≤ℤ a → P false) → P (leZ a b)
+by-order a b P f g = go (leZ a b) (λ t. f (leZ-yes t)) (λ t. g (lt-le b a (record { lt = not-le a b t })))
+  where
+    go : (t : Bool) → (T t → P true) → (T (not t) → P false) → P t
+    go true f g = f tt
+    go false f g = g tt
+
 -- ---- a range
 pub within-is : (lo hi z : ℤ) → within lo hi z ≡ true → (lo ≤ℤ z) × (z ≤ℤ hi)
 within-is lo hi z e =
     let b = and-yes (leZ lo z) (leZ z hi) (true-T e) in
     (leZ-yes (b .0), leZ-yes (b .1))
+
+is-true : (b : Bool) → T b → b ≡ true
+is-true true t = refl
+is-true false t = absurd t
+
+pub is-within : (lo hi z : ℤ) → lo ≤ℤ z → z ≤ℤ hi → within lo hi z ≡ true
+is-within lo hi z h k = rw (is-true (leZ lo z) (h .le), is-true (leZ z hi) (k .le))
 
 between-fits : (w : Width) (lo hi z : ℤ) → SFits w lo → SFits w hi → (lo ≤ℤ z) × (z ≤ℤ hi) → SFits w z
 between-fits w = parts₃ _ (λ a b c d e f. simp ints (omega arith))

@@ -1,0 +1,4 @@
+pub mod Reckoning
+pub mod Both
+pub mod Near
+pub mod Theorem
