@@ -25,7 +25,7 @@ ghost use lib.IntN.{pos};
 ghost use Rattle.signed.specs.Ranges.{size};
 ghost use Rattle.rules.specs.Stores.{axisNumber, directionNumber, triggerRange};
 ghost use Rattle.rules.specs.Refusals.{first};
-ghost use Rattle.rules.specs.Probes.{sign, placeOf, triggerOf, mark};
+ghost use Rattle.rules.specs.Probes.{sign, placeOf, triggerOf, calibratedIn, mark};
 ghost use Rattle.rules.specs.Calibration.{newTrigger, change, calibrationArguments, calibrationNumbers, calibrationPositions, calibrationLimits, calibratedProbe};
 ghost use Rattle.rules.specs.Status.{statusRead};
 ghost use Rattle.rules.specs.Calls.{answered, calibrate};
@@ -51,6 +51,15 @@ pub fn trigger_of(x: Probe, axis: i64, direction: i64) -> i64
     let place = place_of(axis, direction);
     let t = x.triggers[place - 1];
     nearest_in(t as i64, -TRIGGER_LIMIT, TRIGGER_LIMIT)
+}
+
+// Whether a probe is calibrated on an axis 1..3 in a direction 0 or 1. No call of a user.
+pub fn calibrated_in(x: Probe, axis: i64, direction: i64) -> bool
+    requires { ⌜ (axisNumber axis ≡ true) × (directionNumber direction ≡ true) ⌝ }
+    ensures { λ r. ⌜ r ≡ calibratedIn x axis direction ⌝ }
+{
+    let place = place_of(axis, direction);
+    ((x.status % 64) >> (place - 1)) % 2 == 1
 }
 
 // s of a direction: 1 where it is positive, else -1.

@@ -1,6 +1,6 @@
 -- The claim of Reckoning.antt, proved: one statement about every list of calls.
 use mathlib.Core.Path.{_≡_, refl, sym, _∙_}
-use mathlib.Core.Bool.{Bool, true, false, cond}
+use mathlib.Core.Bool.{Bool, true, false, cond, and-eq-true-iff}
 use mathlib.Core.List.{List, [], _∷_}
 use Prim.Native.Nat.{ℕ, zero, suc, _≤_}
 use native.Mathlib.Omega.{arith}
@@ -9,7 +9,7 @@ use lib.IntN.{ℤ, pos}
 use lib.ListN.{length, drop, length-drop}
 use borrow.Author.Tests.{eqb-true, ne-eqb}
 use Rattle.signed.specs.Sizes.{abs-pos}
-use Rattle.signed.specs.RangeLaws.{both, within-is}
+use Rattle.signed.specs.RangeLaws.{within-is}
 use Rattle.package.specs.Fresh.{freshPackage}
 use Rattle.package.specs.declared.Package.{Package}
 use Rattle.package.specs.declared.Wear.{Wear}
@@ -90,7 +90,7 @@ weight-done : (p : Package) (a : ToolMeasurement) (array : List ℤ) (place : �
 unfolding refusal toolArguments toolRecords
 weight-done p a array place e =
     let t = all-passed (rules p (measureTool a array place)) tt e in
-    abs-pos (a .k) (within-is (pos 1) (pos 1000) (a .k) (both (positionsOk (toolKindOf a) (a .part)) (within (pos 1) (pos 1000) (a .k)) (t .1 .1 .0) .1) .0)
+    abs-pos (a .k) (within-is (pos 1) (pos 1000) (a .k) (and-eq-true-iff (positionsOk (toolKindOf a) (a .part)) (within (pos 1) (pos 1000) (a .k)) .0 (t .1 .1 .0) .1) .0)
 
 loaded-means : (p : Package) (bytes : List ℕ) → refusal p (load bytes) ≡ 0 → length (words (drop 40 bytes)) ≡ 20
 unfolding refusal

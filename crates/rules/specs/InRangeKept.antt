@@ -1,6 +1,6 @@
 -- Every call keeps every record in its range.
 use mathlib.Core.Path.{_≡_, refl}
-use mathlib.Core.Bool.{Bool, true, false, not, cond, _&&_, _||_}
+use mathlib.Core.Bool.{Bool, true, false, not, cond, _&&_, _||_, and-eq-true-iff}
 use mathlib.Core.List.{List, [], _∷_}
 use Prim.Native.Nat.{ℕ, zero, suc, _-_, _<_, _≤_, _^_, _%_}
 use native.Mathlib.Omega.{arith}
@@ -13,7 +13,7 @@ use lib.Signed.{_≤ℤ_, leZ, ltZ, leZ-yes}
 use borrow.Author.Tests.{eqb-true, ne-eqb}
 use Rattle.signed.specs.Differences.{ints, parts₂}
 use Rattle.signed.specs.Ranges.{minus, size}
-use Rattle.signed.specs.RangeLaws.{true-T, both, lt-left, is-within}
+use Rattle.signed.specs.RangeLaws.{true-T, lt-left, is-within}
 use Rattle.lists.specs.Each.{each-take, each-drop}
 use Rattle.package.specs.declared.Package.{Package}
 use Rattle.package.specs.declared.Probe.{Probe}
@@ -27,7 +27,8 @@ use Rattle.rules.specs.StoreLaws.{Store, put-store, pick-store, pick-any
 use Rattle.rules.specs.Refusals.{rising}
 use Rattle.rules.specs.RefusalLaws.{all-passed, all-of, rising-is}
 use Rattle.rules.specs.Probes.{places, placeOf, statusOf, mark}
-use Rattle.rules.specs.Calibration.{newTrigger, change, calibrationArguments, calibrationRecords, calibratedProbe}
+use Rattle.rules.specs.ProbeLaws.{numbers-are, calibrated-status}
+use Rattle.rules.specs.Calibration.{calibrationNumbers, newTrigger, change, calibrationArguments, calibrationRecords, calibratedProbe}
 use Rattle.rules.specs.Tool.{limitsOk, deviation, branchOf, meanIn, oldMean, newMean, branch, meanLeft, onLength, grown, correctedWear, wearLeft, toolNumbers, toolArguments, toolRecords}
 use Rattle.rules.specs.MeasuringLaws.{tool-numbers, zero-numbers, limits-passed}
 use Rattle.rules.specs.Zero.{corrects, growth, eachCorrected, axisOf, axisLeft, zeroNumbers, zeroArguments, zeroRecords}
@@ -37,19 +38,9 @@ use Rattle.rules.specs.InRange.{ProbeInRange, WearInRange, OffsetInRange
 use Rattle.rules.specs.Calls.{Call, setEmpirical, setWear, setOffset, calibrate, readStatus, measureTool, measureZero, load, save, rules, refusal, done, step}
 
 -- ---- a calibration that is done
-place-most : (n : ℤ) → pick 0 places n ≤ 6
-place-most n =
-    pick-any {A = ℕ} {P = λ m. m ≤ 6} {n = 6} {xs = places} 0 n (omega arith) (record { long = refl; entries = (omega arith, (omega arith, (omega arith, (omega arith, (omega arith, (omega arith, tt)))))) })
-
-mark-small : (x : Probe) (axis direction : ℤ) → mark (statusOf x) (placeOf axis direction) < 64
-unfolding statusOf placeOf
-mark-small x axis direction =
-    let h = place-most (pos 2 *ℤ axis -ℤ pos 1 +ℤ direction) in
-    or-lt 6 (x .status % 64) (2 ^ (pick 0 places (pos 2 *ℤ axis -ℤ pos 1 +ℤ direction) - 1)) (omega arith) (pow-lt {j = 6} (omega arith))
-
-placed-probe : (x : Probe) (a : Calibration) → triggerRange (newTrigger a) ≡ true → ProbeInRange x → ProbeInRange (calibratedProbe x a)
+placed-probe : (x : Probe) (a : Calibration) → calibrationNumbers a ≡ true → triggerRange (newTrigger a) ≡ true → ProbeInRange x → ProbeInRange (calibratedProbe x a)
 unfolding calibratedProbe
-placed-probe x a e h = record { triggers = go (ltZ (a .tzl) (size (change x a))); status = mark-small x (a .axis) (a .direction) }
+placed-probe x a n e h = record { triggers = go (ltZ (a .tzl) (size (change x a))); status = calibrated-status a n x }
   where
     go : (b : Bool) → Store 6 (λ t. triggerRange t ≡ true) (cond b (put (x .triggers) (pos (placeOf (a .axis) (a .direction))) (newTrigger a)) (x .triggers))
     go true = put-store (pos (placeOf (a .axis) (a .direction))) (newTrigger a) (h .triggers) e
@@ -59,8 +50,8 @@ calibrated-probe : (p : Package) (a : Calibration) → refusal p (calibrate a) �
 unfolding refusal calibrationArguments calibrationRecords
 calibrated-probe p a e h =
     let t = all-passed (rules p (calibrate a)) tt e in
-    let n = all-of (probeNumber (a .probe)) (axisNumber (a .axis) ∷ directionNumber (a .direction) ∷ []) (t .0) .0 in
-    placed-probe (probeOf p (a .probe)) a (t .1 .1 .1 .1 .0) (pick-store _ (a .probe) (h .probes) n)
+    let n = numbers-are a (t .0) .0 in
+    placed-probe (probeOf p (a .probe)) a (t .0) (t .1 .1 .1 .1 .0) (pick-store _ (a .probe) (h .probes) n)
 
 -- ---- a measurement with tool offset that is done
 small-value : (z t : ℤ) → size z ≤ℤ t → t ≤ℤ pos 32767 → valueRange z ≡ true
@@ -143,7 +134,7 @@ done-in-range p (setEmpirical ev value) e b h =
       offsets = h .offsets;
     }
 done-in-range p (setWear tool radius length) e b h =
-    let t = both (wearRange radius) (wearRange length) (all-passed (rules p (setWear tool radius length)) tt e .1 .0) in
+    let t = and-eq-true-iff (wearRange radius) (wearRange length) .0 (all-passed (rules p (setWear tool radius length)) tt e .1 .0) in
     record {
       probes = h .probes;
       empirical = h .empirical;

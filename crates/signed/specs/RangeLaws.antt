@@ -1,23 +1,34 @@
 -- What a test of a range tells, and what the tests of signed numbers in the code tell.
 use mathlib.Core.Path.{_≡_, refl, sym, ap, _∙_, subst, subst₂}
 use mathlib.Core.Bool.{Bool, true, false, not, cond, _&&_}
-use Prim.Native.Nat.{ℕ, zero, suc, _<_}
+use Prim.Native.Nat.{ℕ, suc, _≤_, _<_}
 use native.Mathlib.Omega.{arith}
-use lib.Dec.{T, leb→le, nleb→lt, lt→ltb}
-use lib.IntN.{ℤ, pos, negsuc}
+use lib.Dec.{T, leb, ltb, leb→le, nleb→lt, lt→ltb}
+use lib.IntN.{ℤ, pos, negsuc, natAbs}
 use lib.Signed.{_≤ℤ_, _<ℤ_, leZ, ltZ, ltZ-yes, ltZ-no, leZ-yes}
+use borrow.Author.Tests.{eq-eqb, ne-eqb, ltb-true, ltb-false, lt-leb, le-leb}
 use mir.Syntax.{Width}
 use mir.Val.{SFits}
 use mir.Facts.{and-yes}
-use Rattle.signed.specs.Differences.{ints, parts₂, parts₃}
-use Rattle.signed.specs.Ranges.{within, nearestIn}
+use Rattle.signed.specs.Differences.{ints, parts, parts₂, parts₃, neg-at}
+use Rattle.signed.specs.Ranges.{minus, within, eqZ}
 
 pub true-T : {b : Bool} → b ≡ true → T b
 true-T e = subst T (sym e) tt
 
-pub both : (a b : Bool) → a && b ≡ true → (a ≡ true) × (b ≡ true)
-both true b e = (refl, e)
-both false b e = absurd (true-T e)
+-- ---- whether two numbers are the same
+eqZ-refl : (x : ℤ) → eqZ x x ≡ true
+eqZ-refl (pos n) = eq-eqb n n refl
+eqZ-refl (negsuc n) = eq-eqb n n refl
+
+pub eqZ-same : (x y : ℤ) → x ≡ y → eqZ x y ≡ true
+eqZ-same x y e = rw e (eqZ-refl y)
+
+pub eqZ-not : (x y : ℤ) → (x ≡ y → ⊥) → eqZ x y ≡ false
+eqZ-not (pos a) (pos b) h = ne-eqb a b (λ q. h (ap pos q))
+eqZ-not (pos a) (negsuc b) h = refl
+eqZ-not (negsuc a) (pos b) h = refl
+eqZ-not (negsuc a) (negsuc b) h = ne-eqb a b (λ q. h (ap negsuc q))
 
 -- ---- a comparison of two numbers
 pub lt-taken : {a b : ℤ} → ltZ a b ≡ true → a <ℤ b
@@ -37,6 +48,20 @@ not-le (pos a) (pos b) t = lt→ltb b a (nleb→lt a b t)
 not-le (pos a) (negsuc b) t = tt
 not-le (negsuc a) (pos b) t = absurd t
 not-le (negsuc a) (negsuc b) t = lt→ltb a b (nleb→lt b a t)
+
+leb-not : (a b : ℕ) → leb b a ≡ not (ltb a b)
+leb-not a b = go (ltb a b) refl
+  where
+    go : (t : Bool) → ltb a b ≡ t → leb b a ≡ not t
+    go true e = lt-leb b a (ltb-true a b e)
+    go false e = le-leb b a (ltb-false a b e)
+
+-- b is at most a exactly where a is not less than b
+pub leZ-not : (a b : ℤ) → leZ b a ≡ not (ltZ a b)
+leZ-not (pos a) (pos b) = leb-not a b
+leZ-not (pos a) (negsuc b) = refl
+leZ-not (negsuc a) (pos b) = refl
+leZ-not (negsuc a) (negsuc b) = leb-not b a
 
 -- by which of two numbers is the smaller
 pub by-order : (a b : ℤ) (P : Bool → Type 0) → (a ≤ℤ b → P true) → (b ≤ℤ a → P false) → P (leZ a b)
@@ -65,6 +90,13 @@ between-fits w = parts₃ _ (λ a b c d e f. simp ints (omega arith))
 -- a number of a range is of a machine type where the range's ends are
 pub within-fits : {w : Width} (lo hi z : ℤ) → SFits w lo → SFits w hi → within lo hi z ≡ true → SFits w z
 within-fits {w} lo hi z f g e = between-fits w lo hi z f g (within-is lo hi z e)
+
+size-between : (n : ℕ) (z : ℤ) → (minus n ≤ℤ z) × (z ≤ℤ pos n) → natAbs z ≤ n
+size-between n = rw (neg-at n) (parts _ (λ a b. simp ints (omega arith)))
+
+-- the size of a number within ±n
+pub size-in : (n : ℕ) (z : ℤ) → within (minus n) (pos n) z ≡ true → natAbs z ≤ n
+size-in n z e = size-between n z (within-is (minus n) (pos n) z e)
 
 -- ---- the number of a store and its index
 pub below-top : (i top : ℕ) → within (pos 1) (pos top) (pos (suc i)) ≡ true → i < top

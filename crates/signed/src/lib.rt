@@ -4,7 +4,7 @@ ghost use mathlib.Core.Bool.{true};
 ghost use Prim.Native.Nat.{_≤_, suc};
 ghost use lib.IntN.{pos, natAbs};
 ghost use lib.Signed.{_≤ℤ_};
-ghost use Rattle.signed.specs.Ranges.{within, size, nearestIn};
+ghost use Rattle.signed.specs.Ranges.{within, eqZ, size, nearestIn};
 ghost use Rattle.signed.specs.Rounding.{roundedQuotient};
 
 // Whether lo ≤ v ≤ hi.
@@ -12,6 +12,13 @@ pub fn in_range(v: i64, lo: i64, hi: i64) -> bool
     ensures { λ r. ⌜ r ≡ within lo hi v ⌝ }
 {
     (lo <= v) & (v <= hi)
+}
+
+// Whether two numbers are the same.
+pub fn same(x: i64, y: i64) -> bool
+    ensures { λ r. ⌜ r ≡ eqZ x y ⌝ }
+{
+    x == y
 }
 
 // The number of lo..hi that is nearest to v.

@@ -8,7 +8,8 @@ use borrow.Author.Needs.{needs}
 use Rattle.signed.specs.Ranges.{minus}
 use Rattle.rules.specs.Stores.{valueNumber, valueRange}
 use Rattle.rules.specs.Calls.{Call, setEmpirical}
-use Rattle.records.proofs.Laws.{failed, passed, no-number, no-value, all-set, from-one, in-store, Cast, casts}
+use Rattle.signed.specs.CodeLaws.{failed, passed, from-one, in-store, Cast, casts}
+use Rattle.records.proofs.Laws.{no-number, no-value, all-set}
 use Rattle.records.proofs.set_empirical.Statement.{statement}
 use Rattle.records.proofs.set_empirical.Tie as tie
 

@@ -1,5 +1,6 @@
 use mathlib.Core.Path.{_≡_, refl, sym, _∙_, ap₂}
 use mathlib.Core.Bool.{true, _&&_}
+use mathlib.Core.List.{[], _∷_}
 use native.Mathlib.Omega.{arith}
 use lib.IntN.{pos}
 use mir.Syntax.{w32}
@@ -8,7 +9,9 @@ use borrow.Author.Needs.{needs}
 use Rattle.signed.specs.Ranges.{minus}
 use Rattle.rules.specs.Stores.{offsetNumber, offsetRange}
 use Rattle.rules.specs.Calls.{Call, setOffset}
-use Rattle.records.proofs.Laws.{failed, passed, both, no-number, no-value, all-set, from-one, in-store, Cast, casts}
+use Rattle.signed.specs.CodeLaws.{failed, passed, from-one, in-store, Cast, casts}
+use Rattle.rules.specs.RefusalLaws.{all-of}
+use Rattle.records.proofs.Laws.{no-number, no-value, all-set}
 use Rattle.records.proofs.set_offset.Statement.{statement}
 use Rattle.records.proofs.set_offset.Tie as tie
 
@@ -43,11 +46,10 @@ value-casts : (c : tie.Else2) →
     Cast w32 (s .args .v1) × Cast w32 (s .args .v2) × Cast w32 (s .args .v3)
 value-casts c =
     let s = c .before .before .before .before .before .before in
-    let b = both (offsetRange (s .args .v1) && offsetRange (s .args .v2)) (offsetRange (s .args .v3)) (values-in c) in
-    let a = both (offsetRange (s .args .v1)) (offsetRange (s .args .v2)) (b .0) in (
-      casts w32 (minus 20000000) (pos 20000000) (s .fits .v1) tt tt (a .0),
-      casts w32 (minus 20000000) (pos 20000000) (s .fits .v2) tt tt (a .1),
-      casts w32 (minus 20000000) (pos 20000000) (s .fits .v3) tt tt (b .1),
+    let t = all-of (offsetRange (s .args .v1)) (offsetRange (s .args .v2) ∷ offsetRange (s .args .v3) ∷ []) (values-in c) in (
+      casts w32 (minus 20000000) (pos 20000000) (s .fits .v1) tt tt (t .0),
+      casts w32 (minus 20000000) (pos 20000000) (s .fits .v2) tt tt (t .1 .0),
+      casts w32 (minus 20000000) (pos 20000000) (s .fits .v3) tt tt (t .1 .1 .0),
     )
 
 in-range-requires : tie.Need-in-range-requires

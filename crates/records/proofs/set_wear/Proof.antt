@@ -1,5 +1,5 @@
 use mathlib.Core.Path.{_≡_, refl, sym, _∙_, ap₂}
-use mathlib.Core.Bool.{true, _&&_}
+use mathlib.Core.Bool.{true, _&&_, and-eq-true-iff}
 use native.Mathlib.Omega.{arith}
 use lib.IntN.{pos}
 use mir.Syntax.{w32}
@@ -8,7 +8,8 @@ use borrow.Author.Needs.{needs}
 use Rattle.signed.specs.Ranges.{minus}
 use Rattle.rules.specs.Stores.{toolNumber, wearRange}
 use Rattle.rules.specs.Calls.{Call, setWear}
-use Rattle.records.proofs.Laws.{failed, passed, both, no-number, no-value, all-set, from-one, in-store, Cast, casts}
+use Rattle.signed.specs.CodeLaws.{failed, passed, from-one, in-store, Cast, casts}
+use Rattle.records.proofs.Laws.{no-number, no-value, all-set}
 use Rattle.records.proofs.set_wear.Statement.{statement}
 use Rattle.records.proofs.set_wear.Tie as tie
 
@@ -40,7 +41,7 @@ wear-casts : (c : tie.Else2) →
     Cast w32 (s .args .radius) × Cast w32 (s .args .length)
 wear-casts c =
     let s = c .before .before .before .before .before in
-    let b = both (wearRange (s .args .radius)) (wearRange (s .args .length)) (wears-in c) in (
+    let b = and-eq-true-iff (wearRange (s .args .radius)) (wearRange (s .args .length)) .0 (wears-in c) in (
       casts w32 (minus 2000000) (pos 2000000) (s .fits .radius) tt tt (b .0),
       casts w32 (minus 2000000) (pos 2000000) (s .fits .length) tt tt (b .1),
     )

@@ -1,0 +1,252 @@
+use mathlib.Core.Path.{_≡_, refl, sym, ap, ap₂, _∙_}
+use mathlib.Core.Bool.{Bool, true, false, not}
+use mathlib.Core.List.{List, []}
+use Prim.Native.Nat.{suc, _-_, _<_, _≤_}
+use native.Mathlib.Omega.{arith}
+use lib.IntN.{ℤ, pos, natAbs, _-ℤ_}
+use lib.ListN.{getD}
+use lib.Signed.{leZ, ltZ}
+use mir.Syntax.{w64}
+use mir.Val.{SFits, ofZ, toZ}
+use mir.Facts.{toZ-ofZ}
+use borrow.Author.Needs.{needs}
+use borrow.Author.Tests.{not-true, not-false}
+use Rattle.signed.specs.Ranges.{size}
+use Rattle.signed.specs.RangeLaws.{within-is, below-top, leZ-not, size-in}
+use Rattle.signed.specs.Expressions.{Ex, bound, sub, Runs, run, sized}
+use Rattle.package.specs.declared.Package.{Package}
+use Rattle.package.specs.declared.Probe.{Probe}
+use Rattle.package.specs.declared.Calibration.{Calibration}
+use Rattle.package.specs.declared.Answer.{Answer}
+use Rattle.rules.specs.Stores.{probeNumber, probeOf, withProbe, triggerRange}
+use Rattle.rules.specs.Refusals.{Rule, first}
+use Rattle.rules.specs.RefusalLaws.{Numbered, Passed, all-passed, first-sooner, first-later}
+use Rattle.rules.specs.Probes.{triggerOf}
+use Rattle.rules.specs.Calibration.{newTrigger, change, calibrationNumbers, calibrationPositions, calibrationArguments, calibrationRecords, calibratedProbe}
+use Rattle.rules.specs.Calls.{refusal, calibrate}
+use Rattle.rules.specs.CallLaws.{refused, accepted}
+use Rattle.rules.specs.ProbeLaws.{numbers-are, trigger-in}
+use Rattle.probes.proofs.Laws.{trigger-size}
+use Rattle.probes.proofs.calibrate.Statement.{statement}
+use Rattle.probes.proofs.calibrate.Tie as tie
+
+-- ---- the rules of the arguments
+arguments-refusal-requires : tie.Need-arguments-refusal-requires
+arguments-refusal-requires c κs = search needs
+
+abbrev records : Package → Calibration → ℤ → List Rule
+records p a n = calibrationRecords (probeOf p n) a
+
+returns : tie.Need-returns
+unfolding refusal
+returns c =
+    let p = c .before .before .args .t1 in
+    let a = c .before .before .args .a in
+    let r = c .before .arguments-refusal .result in
+    let some : r ≡ suc (r - 1) = omega (arith, c .if1 .taken) in
+    let e = first-sooner (calibrationArguments a) (records p a (a .probe)) (r - 1) (sym (c .before .arguments-refusal .ensures) ∙ some) in
+    rw some (sym (refused p (calibrate a) (r - 1) e))
+
+numbered : (a : Calibration) → Numbered (calibrationArguments a)
+unfolding calibrationArguments
+numbered a = tt
+
+none : (c : tie.Else1) → first (calibrationArguments (c .before .before .args .a)) ≡ 0
+none c = sym (c .before .arguments-refusal .ensures) ∙ c .if1 .left
+
+passed : (c : tie.Else1) → Passed (calibrationArguments (c .before .before .args .a))
+passed c = let a = c .before .before .args .a in all-passed (calibrationArguments a) (numbered a) (none c)
+
+numbers : (c : tie.Else1) → calibrationNumbers (c .before .before .args .a) ≡ true
+unfolding calibrationArguments
+numbers c = passed c .0
+
+positions : (c : tie.Else1) → calibrationPositions (c .before .before .args .a) ≡ true
+unfolding calibrationArguments
+positions c = passed c .1 .0
+
+-- ---- the probe
+probe-number : (c : tie.Else1) → probeNumber (c .before .before .args .a .probe) ≡ true
+probe-number c = numbers-are (c .before .before .args .a) (numbers c) .0
+
+probe-fits : (c : tie.After-struct-told) → SFits w64 (c .before .before .before .args .a .probe)
+probe-fits c = record { sfits = c .struct-told .given .0 .1 }
+
+index-requires : tie.Need-index-requires
+index-requires c κs =
+    let n = c .before .before .before .args .a .probe in
+    rw (toZ-ofZ (probe-fits c)) (within-is (pos 1) (pos 3) n (probe-number (c .before)) .0)
+
+probe-is : (c : tie.After-index) → c .before .before .before .before .args .a .probe ≡ pos (suc (c .index .result))
+probe-is c = sym (toZ-ofZ (probe-fits (c .before))) ∙ c .index .ensures
+
+below : (c : tie.After-index) → c .index .result < 3
+below c = below-top (c .index .result) 3 (rw (probe-is c) at (probe-number (c .before .before)))
+
+mul-x : tie.Need-mul-x
+mul-x c = omega (arith, below c)
+
+element-copy-out-x : tie.Need-element-copy-out-x
+element-copy-out-x c = below c
+
+-- ---- t, the stored trigger, and |d|
+new-trigger-requires : tie.Need-new-trigger-requires
+new-trigger-requires c κs = positions (c .before .before .before)
+
+trigger-of-requires : tie.Need-trigger-of-requires
+trigger-of-requires c κs =
+    let e = c .before .before .before .before .before .before in
+    let n = numbers-are (e .before .before .args .a) (numbers e) in
+    search needs
+
+-- from where the stored trigger is known: the place of the index, and what the call was given
+abbrev indexed : tie.After-trigger-of → tie.After-index
+indexed c = c .before .before .before .before .before
+
+abbrev held : tie.After-trigger-of → Package
+held c = indexed c .before .before .before .before .args .t1
+
+abbrev given : tie.After-trigger-of → Calibration
+given c = indexed c .before .before .before .before .args .a
+
+abbrev x : tie.After-trigger-of → Probe
+x c = getD (held c .probes) (indexed c .index .result) (record { triggers = []; status = 0 })
+
+new : (c : tie.After-trigger-of) → c .before .before .before .new-trigger .result ≡ newTrigger (given c)
+new c = c .before .before .before .new-trigger .ensures
+
+stored : (c : tie.After-trigger-of) → c .trigger-of .result ≡ triggerOf (x c) (given c .axis) (given c .direction)
+stored c = c .trigger-of .ensures ∙ search needs
+
+new-size : (c : tie.After-trigger-of) → natAbs (c .before .before .before .new-trigger .result) ≤ 20000000
+new-size c = rw (new c) (trigger-size (given c) (positions (indexed c .before .before)))
+
+stored-size : (c : tie.After-trigger-of) → natAbs (c .trigger-of .result) ≤ 100000
+stored-size c =
+    let a = given c in
+    rw (stored c) (size-in 100000 (triggerOf (x c) (a .axis) (a .direction)) (trigger-in (x c) (a .axis) (a .direction)))
+
+abbrev difference : tie.After-trigger-of → Ex w64
+difference c =
+    sub (bound (c .before .before .before .new-trigger .result) 20000000 (new-size c) tt)
+    (bound (c .trigger-of .result) 100000 (stored-size c) tt)
+
+runs : (c : tie.After-trigger-of) → Runs (difference c)
+runs c = run (difference c) tt (search)
+
+sub-magnitude : tie.Need-sub-magnitude
+sub-magnitude c = search (runs c .asks)
+
+magnitude-requires : tie.Need-magnitude-requires
+magnitude-requires c κs = rw (runs c .value) (omega (arith, sized (difference c)))
+
+far : (c : tie.After-magnitude) → c .magnitude .result ≡ size (change (x (c .before)) (given (c .before)))
+unfolding change
+far c = c .magnitude .ensures ∙ ap size (runs (c .before) .value ∙ ap₂ _-ℤ_ (new (c .before)) (stored (c .before)))
+
+-- both are read back as they are
+new-fits : (c : tie.After-trigger-of) → SFits w64 (c .before .before .before .new-trigger .result)
+new-fits c = record { sfits = c .before .before .before .new-trigger .ok }
+
+far-fits : (c : tie.After-magnitude) → SFits w64 (c .magnitude .result)
+far-fits c = record { sfits = c .magnitude .ok }
+
+-- ---- the rules of the records
+later : (c : tie.After-trigger-of) → refusal (held c) (calibrate (given c)) ≡ first (calibrationRecords (x c) (given c))
+unfolding refusal
+later c =
+    let p = held c in
+    let a = given c in
+    first-later (calibrationArguments a) (records p a (a .probe)) (numbered a) (none (indexed c .before .before))
+    ∙ ap (λ n. first (records p a n)) (probe-is (indexed c))
+
+-- |d| is at most TSA where the code does not find TSA below it
+near : (c : tie.After-struct-told4) (below : Bool) →
+    let m = c .before .before in
+    let a = given (m .before) in
+    ltZ (toZ w64 (ofZ w64 (a .tsa))) (toZ w64 (ofZ w64 (m .magnitude .result))) ≡ below → leZ (size (change (x (m .before)) a)) (a .tsa) ≡ not below
+near c below e =
+    let m = c .before .before in
+    let a = given (m .before) in
+    let f : SFits w64 (a .tsa) = record { sfits = c .struct-told4 .given .1 .1 .1 .1 .1 .1 .0 .1 } in
+    leZ-not (a .tsa) (size (change (x (m .before)) a)) ∙ ap not (rw (toZ-ofZ f, toZ-ofZ (far-fits m), far m) at e)
+
+returns-2 : tie.Need-returns-2
+unfolding calibrationRecords
+returns-2 c =
+    let t = c .before .before .before .before in
+    sym (refused (held t) (calibrate (given t)) 6 (later t ∙ rw (near (c .before) true (c .if2 .taken))))
+
+sub-in-range : tie.Need-sub-in-range
+sub-in-range c = search needs
+
+in-range-requires : tie.Need-in-range-requires
+in-range-requires c κs = search needs
+
+tested : (c : tie.After-in-range) → c .in-range .result ≡ triggerRange (newTrigger (given (c .before .before .before .before .before)))
+tested c =
+    let t = c .before .before .before .before .before in
+    rw (toZ-ofZ (new-fits t), new t) at (c .in-range .ensures)
+
+returns-3 : tie.Need-returns-3
+unfolding calibrationRecords
+returns-3 c =
+    let e = c .before .before in
+    let t = e .before .before .before .before in
+    let no : triggerRange (newTrigger (given t)) ≡ false = sym (tested (c .before)) ∙ not-true _ (c .if3 .taken) in
+    sym (refused (held t) (calibrate (given t)) 8 (later t ∙ rw (near (e .before) false (e .if2 .left), no)))
+
+-- ---- the probe's new records
+in-range : (c : tie.Else3) → triggerRange (newTrigger (given (c .before .before .before .before .before .before))) ≡ true
+in-range c = sym (tested (c .before)) ∙ not-false _ (c .if3 .left)
+
+calibrated-probe-requires : tie.Need-calibrated-probe-requires
+calibrated-probe-requires c κs =
+    let m = c .before .before .before .before .before in
+    rw (toZ-ofZ (new-fits (m .before)), toZ-ofZ (far-fits m), new (m .before))
+    (numbers (indexed (m .before) .before .before), ((refl, in-range c), far m))
+
+abbrev reckoned : tie.After-calibrated-probe → tie.After-trigger-of
+reckoned c = c .before .before .before .before .before .before .before
+
+mul-t12 : tie.Need-mul-t12
+mul-t12 c = omega (arith, below (indexed (reckoned c)))
+
+element-set-from-after : tie.Need-element-set-from-after
+element-set-from-after c = below (indexed (reckoned c))
+
+-- the answer by the probe's number
+abbrev done : Package → Calibration → ℤ → Answer
+done p a n = record { after = withProbe p n (calibratedProbe (probeOf p n) a); refusal = 0 }
+
+returns-4 : tie.Need-returns-4
+unfolding calibrationRecords
+returns-4 c =
+    let t = reckoned c in
+    let p = held t in
+    let a = given t in
+    let e = c .before .before .before in
+    let none-applies : refusal p (calibrate a) ≡ 0 = later t ∙ rw (near (e .before) false (e .if2 .left), in-range (c .before)) in
+    rw (c .calibrated-probe .ensures) (sym (accepted p (calibrate a) none-applies ∙ ap (done p a) (probe-is (indexed t))))
+
+pub calibrate-spec : {M : Type 1} → statement M
+calibrate-spec =
+    tie.close
+    (tie.spec
+    arguments-refusal-requires
+    returns
+    index-requires
+    mul-x
+    element-copy-out-x
+    new-trigger-requires
+    trigger-of-requires
+    sub-magnitude
+    magnitude-requires
+    returns-2
+    sub-in-range
+    in-range-requires
+    returns-3
+    calibrated-probe-requires
+    mul-t12
+    element-set-from-after
+    returns-4)

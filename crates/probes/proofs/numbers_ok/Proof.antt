@@ -1,0 +1,19 @@
+use borrow.Author.Needs.{needs}
+use Rattle.probes.proofs.numbers_ok.Statement.{statement}
+use Rattle.probes.proofs.numbers_ok.Tie as tie
+
+in-range-requires : tie.Need-in-range-requires
+in-range-requires c κs = search needs
+
+in-range-requires-2 : tie.Need-in-range-requires-2
+in-range-requires-2 c κs = search needs
+
+in-range-requires-3 : tie.Need-in-range-requires-3
+in-range-requires-3 c κs = search needs
+
+returns : tie.Need-returns
+returns c = rw (c .before .before .before .before .in-range .ensures, c .before .before .in-range2 .ensures, c .in-range3 .ensures) (search needs)
+
+pub numbers-ok-spec : {M : Type 1} → statement M
+numbers-ok-spec =
+    tie.close (tie.spec in-range-requires in-range-requires-2 in-range-requires-3 returns)
