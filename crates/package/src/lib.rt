@@ -27,6 +27,7 @@ pub const OFFSET_LIMIT: i64 = 20_000_000;
 pub const POSITION_LIMIT: i64 = 10_000_000;
 
 pub const TOLERANCE_LIMIT: i64 = 1_000_000;
+
 pub const WEIGHT_LIMIT: i64 = 1_000;
 
 // Refusals by document 01's 'Alarm numbers'.
@@ -37,18 +38,26 @@ pub const NO_ROOM: u32 = 1;
 pub const NO_SUCH_NUMBER: u32 = 2;
 
 pub const OUTSIDE_RANGE: u32 = 3;
+
 pub const WRONG_LIMITS: u32 = 4;
+
 pub const UNCALIBRATED: u32 = 5;
+
 pub const NO_WIDTH: u32 = 6;
+
 pub const BEYOND_TSA: u32 = 7;
+
 pub const BEYOND_TDIF: u32 = 8;
 
 pub const LEAVES_RANGE: u32 = 9;
 
 // The verdicts of a measurement with tool offset, and the branch of one with zero offset.
 pub const IN_TOLERANCE: u32 = 0;
+
 pub const OVERSIZE: u32 = 1;
+
 pub const UNDERSIZE: u32 = 2;
+
 pub const ZERO_BRANCH: u32 = 6;
 
 // Six trigger values, and a bit for each direction calibrated.
