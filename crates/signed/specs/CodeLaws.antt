@@ -19,6 +19,10 @@ failed {r} e t = sym e ∙ not-true r t
 pub passed : {r b : Bool} → r ≡ b → not r ≡ false → b ≡ true
 passed {r} e t = sym e ∙ not-false r t
 
+-- a number that is known to fit, as the code reads it
+pub read : (z : ℤ) → mag z < 2 ^ 63 → toZ w64 (ofZ w64 z) ≡ z
+read z h = toZ-ofZ (record { sfits = h })
+
 -- a number of a store, as the code reads it
 module _ (top : ℕ) {n : ℤ} (f : SFits w64 n) (e : within (pos 1) (pos top) n ≡ true) where
   pub from-one : pos 1 ≤ℤ toZ w64 (ofZ w64 n)

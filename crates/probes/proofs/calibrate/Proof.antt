@@ -1,4 +1,4 @@
-use mathlib.Core.Path.{_≡_, refl, sym, ap, ap₂, _∙_}
+use mathlib.Core.Path.{_≡_, sym, ap, ap₂, _∙_}
 use mathlib.Core.Bool.{Bool, true, false, not}
 use mathlib.Core.List.{List, []}
 use Prim.Native.Nat.{suc, _-_, _<_, _≤_}
@@ -7,12 +7,11 @@ use lib.IntN.{ℤ, pos, natAbs, _-ℤ_}
 use lib.ListN.{getD}
 use lib.Signed.{leZ, ltZ}
 use mir.Syntax.{w64}
-use mir.Val.{SFits, ofZ, toZ}
-use mir.Facts.{toZ-ofZ}
+use mir.Val.{ofZ, toZ}
 use borrow.Author.Needs.{needs}
 use borrow.Author.Tests.{not-true, not-false}
 use Rattle.signed.specs.Ranges.{size}
-use Rattle.signed.specs.RangeLaws.{within-is, below-top, leZ-not, size-in}
+use Rattle.signed.specs.RangeLaws.{within-is, below-top, size-in, leZ-not}
 use Rattle.signed.specs.Expressions.{Ex, bound, sub, Runs, run, sized}
 use Rattle.package.specs.declared.Package.{Package}
 use Rattle.package.specs.declared.Probe.{Probe}
@@ -26,6 +25,7 @@ use Rattle.rules.specs.Calibration.{newTrigger, change, calibrationNumbers, cal
 use Rattle.rules.specs.Calls.{refusal, calibrate}
 use Rattle.rules.specs.CallLaws.{refused, accepted}
 use Rattle.rules.specs.ProbeLaws.{numbers-are, trigger-in}
+use Rattle.signed.specs.CodeLaws.{read}
 use Rattle.probes.proofs.Laws.{trigger-size}
 use Rattle.probes.proofs.calibrate.Statement.{statement}
 use Rattle.probes.proofs.calibrate.Tie as tie
@@ -34,6 +34,7 @@ use Rattle.probes.proofs.calibrate.Tie as tie
 arguments-refusal-requires : tie.Need-arguments-refusal-requires
 arguments-refusal-requires c κs = search needs
 
+-- the rules of the records by the probe's number
 abbrev records : Package → Calibration → ℤ → List Rule
 records p a n = calibrationRecords (probeOf p n) a
 
@@ -54,6 +55,7 @@ numbered a = tt
 none : (c : tie.Else1) → first (calibrationArguments (c .before .before .args .a)) ≡ 0
 none c = sym (c .before .arguments-refusal .ensures) ∙ c .if1 .left
 
+-- every rule of the arguments passed
 passed : (c : tie.Else1) → Passed (calibrationArguments (c .before .before .args .a))
 passed c = let a = c .before .before .args .a in all-passed (calibrationArguments a) (numbered a) (none c)
 
@@ -69,16 +71,16 @@ positions c = passed c .1 .0
 probe-number : (c : tie.Else1) → probeNumber (c .before .before .args .a .probe) ≡ true
 probe-number c = numbers-are (c .before .before .args .a) (numbers c) .0
 
-probe-fits : (c : tie.After-struct-told) → SFits w64 (c .before .before .before .args .a .probe)
-probe-fits c = record { sfits = c .struct-told .given .0 .1 }
+probe-read : (c : tie.After-struct-told) → let n = c .before .before .before .args .a .probe in toZ w64 (ofZ w64 n) ≡ n
+probe-read c = read (c .before .before .before .args .a .probe) (c .struct-told .given .0 .1)
 
 index-requires : tie.Need-index-requires
 index-requires c κs =
     let n = c .before .before .before .args .a .probe in
-    rw (toZ-ofZ (probe-fits c)) (within-is (pos 1) (pos 3) n (probe-number (c .before)) .0)
+    rw (probe-read c) (within-is (pos 1) (pos 3) n (probe-number (c .before)) .0)
 
 probe-is : (c : tie.After-index) → c .before .before .before .before .args .a .probe ≡ pos (suc (c .index .result))
-probe-is c = sym (toZ-ofZ (probe-fits (c .before))) ∙ c .index .ensures
+probe-is c = sym (probe-read (c .before)) ∙ c .index .ensures
 
 below : (c : tie.After-index) → c .index .result < 3
 below c = below-top (c .index .result) 3 (rw (probe-is c) at (probe-number (c .before .before)))
@@ -144,12 +146,12 @@ far : (c : tie.After-magnitude) → c .magnitude .result ≡ size (change (x (c 
 unfolding change
 far c = c .magnitude .ensures ∙ ap size (runs (c .before) .value ∙ ap₂ _-ℤ_ (new (c .before)) (stored (c .before)))
 
--- both are read back as they are
-new-fits : (c : tie.After-trigger-of) → SFits w64 (c .before .before .before .new-trigger .result)
-new-fits c = record { sfits = c .before .before .before .new-trigger .ok }
+-- both as the code reads them back
+new-read : (c : tie.After-trigger-of) → toZ w64 (ofZ w64 (c .before .before .before .new-trigger .result)) ≡ newTrigger (given c)
+new-read c = read (c .before .before .before .new-trigger .result) (c .before .before .before .new-trigger .ok) ∙ new c
 
-far-fits : (c : tie.After-magnitude) → SFits w64 (c .magnitude .result)
-far-fits c = record { sfits = c .magnitude .ok }
+far-read : (c : tie.After-magnitude) → toZ w64 (ofZ w64 (c .magnitude .result)) ≡ size (change (x (c .before)) (given (c .before)))
+far-read c = read (c .magnitude .result) (c .magnitude .ok) ∙ far c
 
 -- ---- the rules of the records
 later : (c : tie.After-trigger-of) → refusal (held c) (calibrate (given c)) ≡ first (calibrationRecords (x c) (given c))
@@ -168,8 +170,8 @@ near : (c : tie.After-struct-told4) (below : Bool) →
 near c below e =
     let m = c .before .before in
     let a = given (m .before) in
-    let f : SFits w64 (a .tsa) = record { sfits = c .struct-told4 .given .1 .1 .1 .1 .1 .1 .0 .1 } in
-    leZ-not (a .tsa) (size (change (x (m .before)) a)) ∙ ap not (rw (toZ-ofZ f, toZ-ofZ (far-fits m), far m) at e)
+    let tsa = read (a .tsa) (c .struct-told4 .given .1 .1 .1 .1 .1 .1 .0 .1) in
+    leZ-not (a .tsa) (size (change (x (m .before)) a)) ∙ ap not (rw (tsa, far-read m) at e)
 
 returns-2 : tie.Need-returns-2
 unfolding calibrationRecords
@@ -186,7 +188,7 @@ in-range-requires c κs = search needs
 tested : (c : tie.After-in-range) → c .in-range .result ≡ triggerRange (newTrigger (given (c .before .before .before .before .before)))
 tested c =
     let t = c .before .before .before .before .before in
-    rw (toZ-ofZ (new-fits t), new t) at (c .in-range .ensures)
+    c .in-range .ensures ∙ ap triggerRange (new-read t)
 
 returns-3 : tie.Need-returns-3
 unfolding calibrationRecords
@@ -203,8 +205,8 @@ in-range c = sym (tested (c .before)) ∙ not-false _ (c .if3 .left)
 calibrated-probe-requires : tie.Need-calibrated-probe-requires
 calibrated-probe-requires c κs =
     let m = c .before .before .before .before .before in
-    rw (toZ-ofZ (new-fits (m .before)), toZ-ofZ (far-fits m), new (m .before))
-    (numbers (indexed (m .before) .before .before), ((refl, in-range c), far m))
+    let e = new-read (m .before) in
+    (numbers (indexed (m .before) .before .before), ((e, ap triggerRange e ∙ in-range c), far-read m))
 
 abbrev reckoned : tie.After-calibrated-probe → tie.After-trigger-of
 reckoned c = c .before .before .before .before .before .before .before

@@ -1,8 +1,10 @@
-use mathlib.Core.Path.{_≡_, _∙_}
+use mathlib.Core.Path.{_≡_, ap, ap₂, _∙_}
 use mathlib.Core.Bool.{Bool, true, false}
-use Prim.Native.Nat.{suc, _-_, _≤_}
+use mathlib.Core.List.{List}
+use Prim.Native.Nat.{ℕ, suc, _-_, _≤_}
 use native.Mathlib.Omega.{arith}
-use lib.IntN.{pos}
+use lib.IntN.{ℤ, pos}
+use lib.ListN.{set}
 use lib.Signed.{ltZ}
 use mir.Syntax.{w32, w64}
 use mir.Val.{SFits, ofZ, toZ}
@@ -10,9 +12,11 @@ use mir.Facts.{toZ-ofZ, sfits-lit}
 use borrow.Author.Needs.{needs}
 use Rattle.signed.specs.Ranges.{minus, size}
 use Rattle.signed.specs.RangeLaws.{within-fits}
+use Rattle.package.specs.declared.Probe.{Probe}
 use Rattle.rules.specs.Probes.{placeOf, statusOf, mark}
 use Rattle.rules.specs.Calibration.{change, calibratedProbe}
 use Rattle.rules.specs.ProbeLaws.{numbers-are, place-in}
+use Rattle.signed.specs.CodeLaws.{read}
 use Rattle.probes.proofs.calibrated_probe.Statement.{statement}
 use Rattle.probes.proofs.calibrated_probe.Tie as tie
 
@@ -55,7 +59,7 @@ status-is : (c : tie.After-mark-place) →
     let s = c .before .before .before .before in
     c .mark-place .result ≡ mark (statusOf (s .args .x)) (placeOf (s .args .a .axis) (s .args .a .direction))
 unfolding statusOf
-status-is c = rw (place-is (c .before)) at (c .mark-place .ensures)
+status-is c = c .mark-place .ensures ∙ ap (mark (statusOf (c .before .before .before .before .args .x))) (place-is (c .before))
 
 -- the code's test of TZL < |d|
 tested : (c : tie.After-struct-told3) (b : Bool) →
@@ -63,19 +67,25 @@ tested : (c : tie.After-struct-told3) (b : Bool) →
     ltZ (toZ w64 (ofZ w64 (s .args .a .tzl))) (toZ w64 (ofZ w64 (s .args .d))) ≡ b → ltZ (s .args .a .tzl) (size (change (s .args .x) (s .args .a))) ≡ b
 tested c b e =
     let s = c .before .before .before .before .before .before .before in
-    let f : SFits w64 (s .args .a .tzl) = record { sfits = c .struct-told3 .given .1 .1 .1 .1 .1 .0 .1 } in
-    rw (toZ-ofZ f, toZ-ofZ (s .fits .d), s .pre .1 .1) at e
+    rw (read (s .args .a .tzl) (c .struct-told3 .given .1 .1 .1 .1 .1 .0 .1), toZ-ofZ (s .fits .d), s .pre .1 .1) at e
+
+abbrev probe : List ℤ → ℕ → Probe
+probe triggers status = record { triggers = triggers; status = status }
 
 returns : tie.Need-returns
 unfolding calibratedProbe
 returns c =
     let m = c .before .before .before .before in
     let s = m .before .before .before .before in
-    rw (tested (c .before) true (c .if1 .taken), status-is m, toZ-ofZ (s .fits .t), toZ-ofZ (trigger-fits s), s .pre .1 .0 .0, index (m .before))
+    let t = ap (toZ w32) (ap (ofZ w32) (toZ-ofZ (s .fits .t))) ∙ toZ-ofZ (trigger-fits s) ∙ s .pre .1 .0 .0 in
+    rw (tested (c .before) true (c .if1 .taken), index (m .before))
+    (ap₂ probe (ap (set (s .args .x .triggers) (m .before .place-of .result - 1)) t) (rw (index (m .before)) at (status-is m)))
 
 returns-2 : tie.Need-returns-2
 unfolding calibratedProbe
-returns-2 c = rw (tested (c .before) false (c .if1 .left), status-is (c .before .before .before .before))
+returns-2 c =
+    let m = c .before .before .before .before in
+    rw (tested (c .before) false (c .if1 .left)) (ap (probe (m .before .before .before .before .args .x .triggers)) (status-is m))
 
 pub calibrated-probe-spec : {M : Type 1} → statement M
 calibrated-probe-spec =

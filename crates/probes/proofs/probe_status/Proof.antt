@@ -1,12 +1,14 @@
-use mathlib.Core.Path.{_≡_, sym, _∙_}
+use mathlib.Core.Path.{_≡_, sym, ap, _∙_}
 use mathlib.Core.Bool.{true, false}
-use Prim.Native.Nat.{suc, _<_}
+use Prim.Native.Nat.{ℕ, suc, _<_}
 use native.Mathlib.Omega.{arith}
 use lib.IntN.{pos}
 use mir.Facts.{toZ-ofZ}
 use borrow.Author.Needs.{needs}
 use borrow.Author.Tests.{not-true, not-false}
 use Rattle.signed.specs.RangeLaws.{within-is, below-top}
+use Rattle.package.specs.declared.Probe.{Probe}
+use Rattle.package.specs.declared.Status.{Status}
 use Rattle.rules.specs.Stores.{probeNumber, probeOf}
 use Rattle.rules.specs.Probes.{statusOf}
 use Rattle.rules.specs.Status.{statusRead}
@@ -49,12 +51,15 @@ element-copy-out-x c = below c
 cast-bits : tie.Need-cast-bits
 cast-bits c = search needs
 
+abbrev answer : Probe → ℕ → Status
+answer x n = record { refusal = 0; bits = statusOf x; count = n }
+
 returns-2 : tie.Need-returns-2
 unfolding statusRead statusOf
 returns-2 c =
     let i = c .before .before in
     let x = probeOf (i .before .before .before .args .t1) (pos (suc (i .index .result))) in
-    rw (number (i .before), probe-is i, count-is x (omega arith))
+    rw (number (i .before), probe-is i) (ap (answer x) (count-is x (omega arith)))
 
 pub probe-status-spec : {M : Type 1} → statement M
 probe-status-spec =

@@ -10,6 +10,7 @@ use borrow.Author.Needs.{needs}
 use Rattle.signed.specs.Ranges.{minus, nearestIn}
 use Rattle.rules.specs.Probes.{placeOf, triggerOf}
 use Rattle.rules.specs.ProbeLaws.{place-in}
+use Rattle.signed.specs.CodeLaws.{read}
 use Rattle.probes.proofs.trigger_of.Statement.{statement}
 use Rattle.probes.proofs.trigger_of.Tie as tie
 
@@ -60,8 +61,7 @@ returns c =
     let f = narrow t in
     let g = wide t in
     let nearest : c .nearest-in .result ≡ nearestIn (minus 100000) (pos 100000) (trigger t) = simp toZ-ofZ at (c .nearest-in .ensures) in
-    let told : SFits w64 (c .nearest-in .result) = record { sfits = c .nearest-in .ok } in
-    rw (toZ-ofZ told, index (t .before)) nearest
+    rw (read (c .nearest-in .result) (c .nearest-in .ok), index (t .before)) nearest
 
 pub trigger-of-spec : {M : Type 1} → statement M
 trigger-of-spec =
