@@ -1,15 +1,14 @@
 -- What the functions of src/tool.rt meet: the definitions of `rules`, with the code's structs.
 use mathlib.Core.Path.{_≡_}
-use mathlib.Core.Bool.{Bool, true, false, not, cond}
+use mathlib.Core.Bool.{Bool, true, false, cond}
 use mathlib.Core.List.{List, [], _∷_, _++_}
-use Prim.Native.Nat.{ℕ, _≤_}
+use Prim.Native.Nat.{ℕ}
 use lib.Dec.{eqb}
-use lib.IntN.{ℤ, pos, natAbs, _+ℤ_, _*ℤ_}
+use lib.IntN.{ℤ, pos, _+ℤ_, _*ℤ_}
 use lib.Signed.{leZ}
 use Rattle.signed.specs.Ranges.{minus, size, eqZ}
 use Rattle.package.specs.declared.Package.{Package}
 use Rattle.package.specs.declared.Kind.{Kind}
-use Rattle.package.specs.declared.Limits.{Limits}
 use Rattle.package.specs.declared.ToolMeasurement.{ToolMeasurement}
 use Rattle.rules.specs.Stores.{put, wearRange, probeOf, wearOf, withMemory, withWear}
 use Rattle.rules.specs.Probes.{sign}

@@ -1,5 +1,4 @@
 -- What the functions of src/lib.rt meet: the definitions of `rules`, with the code's structs.
-use mathlib.Core.Bool.{Bool}
 use mathlib.Core.List.{List, [], _∷_}
 use Prim.Native.Nat.{ℕ, _≤_}
 use lib.IntN.{ℤ, pos, natAbs, _-ℤ_}

@@ -1,19 +1,18 @@
 -- What a save writes a load reads back, what a load reads a save writes again, and worked pairs of bytes.
-use mathlib.Core.Path.{_≡_, refl, sym, ap, _∙_}
+use mathlib.Core.Path.{_≡_, refl}
 use mathlib.Core.List.{List, [], _∷_, _++_}
-use Prim.Native.Nat.{ℕ, _+_, _*_, _≤_, _<_}
+use Prim.Native.Nat.{ℕ, _+_, _≤_, _<_}
 use native.Mathlib.Omega.{arith}
 use lib.IntN.{ℤ, pos}
 use lib.ListN.{length, take, drop, length-append, length-take, length-drop, take-append-drop}
 use lib.Seq.{take-at, drop-at}
-use borrow.Author.Tests.{le-leb, eq-eqb}
+use borrow.Author.Tests.{le-leb}
 use Rattle.signed.specs.Ranges.{minus}
 use Rattle.lists.specs.Each.{Each, each-take, each-drop}
 use Rattle.package.specs.declared.Package.{Package}
 use Rattle.package.specs.declared.Memory.{Memory}
-use Rattle.package.specs.declared.Answer.{Answer}
 use Rattle.rules.specs.Stores.{withMemory}
-use Rattle.rules.specs.Block.{word, words, octets, blockOf, memoryOf, saved}
+use Rattle.rules.specs.Block.{word, octets, blockOf, saved}
 use Rattle.rules.specs.BlockLaws.{Values, Bytes, length-octets, values-back, bytes-back}
 use Rattle.rules.specs.Calls.{load, refusal, step, answered}
 

@@ -1,19 +1,17 @@
 -- Every call keeps every record in its range.
 use mathlib.Core.Path.{_≡_, refl}
-use mathlib.Core.Bool.{Bool, true, false, not, cond, _&&_, _||_, and-eq-true-iff}
+use mathlib.Core.Bool.{Bool, true, false, not, cond, _||_, and-eq-true-iff}
 use mathlib.Core.List.{List, [], _∷_}
-use Prim.Native.Nat.{ℕ, zero, suc, _-_, _<_, _≤_, _^_, _%_}
+use Prim.Native.Nat.{ℕ, zero, suc, _-_, _<_, _≤_}
 use native.Mathlib.Omega.{arith}
-use lib.Bits.{or-lt}
 use lib.Dec.{eqb}
-use lib.IntN.{ℤ, pos, _+ℤ_, _-ℤ_, _*ℤ_}
+use lib.IntN.{ℤ, pos, _+ℤ_}
 use lib.ListN.{length, take, drop, length-take, length-drop}
-use lib.Pow.{pow-lt}
-use lib.Signed.{_≤ℤ_, leZ, ltZ, leZ-yes}
+use lib.Signed.{_≤ℤ_, ltZ}
 use borrow.Author.Tests.{eqb-true, ne-eqb}
 use Rattle.signed.specs.Differences.{ints, parts₂}
 use Rattle.signed.specs.Ranges.{minus, size}
-use Rattle.signed.specs.RangeLaws.{true-T, lt-left, is-within}
+use Rattle.signed.specs.RangeLaws.{lt-left, is-within}
 use Rattle.lists.specs.Each.{each-take, each-drop}
 use Rattle.package.specs.declared.Package.{Package}
 use Rattle.package.specs.declared.Probe.{Probe}
@@ -22,17 +20,15 @@ use Rattle.package.specs.declared.Limits.{Limits}
 use Rattle.package.specs.declared.ToolMeasurement.{ToolMeasurement}
 use Rattle.package.specs.declared.ZeroMeasurement.{ZeroMeasurement}
 use Rattle.package.specs.declared.Branch.the-variants.{One, Two, Three, Four, Five}
-use Rattle.rules.specs.Stores.{pick, put, probeNumber, axisNumber, directionNumber, triggerRange, valueRange, wearRange, offsetRange, probeOf, wearOf, offsetOf}
+use Rattle.rules.specs.Stores.{put, triggerRange, valueRange, wearRange, offsetRange, probeOf, wearOf, offsetOf}
 use Rattle.rules.specs.StoreLaws.{Store, put-store, pick-store, pick-any}
-use Rattle.rules.specs.Refusals.{rising}
-use Rattle.rules.specs.RefusalLaws.{all-passed, all-of, rising-is}
-use Rattle.rules.specs.Probes.{places, placeOf, statusOf, mark}
+use Rattle.rules.specs.RefusalLaws.{all-passed, all-of}
+use Rattle.rules.specs.Probes.{placeOf}
 use Rattle.rules.specs.ProbeLaws.{numbers-are, calibrated-status}
 use Rattle.rules.specs.Calibration.{calibrationNumbers, newTrigger, change, calibrationArguments, calibrationRecords, calibratedProbe}
 use Rattle.rules.specs.Tool.{limitsOk, deviation, branchOf, meanIn, oldMean, newMean, branch, meanLeft, onLength, grown, correctedWear, wearLeft, toolNumbers, toolArguments, toolRecords}
 use Rattle.rules.specs.MeasuringLaws.{tool-numbers, zero-numbers, limits-passed}
 use Rattle.rules.specs.Zero.{corrects, growth, eachCorrected, axisOf, axisLeft, zeroNumbers, zeroArguments, zeroRecords}
-use Rattle.rules.specs.Block.{words}
 use Rattle.rules.specs.BlockLaws.{words-values}
 use Rattle.rules.specs.InRange.{ProbeInRange, WearInRange, OffsetInRange, InRange, LentBytes}
 use Rattle.rules.specs.Calls.{Call, setEmpirical, setWear, setOffset, calibrate, readStatus, measureTool, measureZero, load, save, rules, refusal, done, step}

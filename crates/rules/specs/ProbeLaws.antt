@@ -7,12 +7,11 @@ use native.Mathlib.Nat.{mod-eq-of-lt, mod-lt}
 use native.Mathlib.Omega.{arith}
 use lib.Bits.{or-lt}
 use lib.Count.{ones, onesIn}
-use lib.Dec.{T, leb, leb→le, ltb, eqb, eqb→eq}
+use lib.Dec.{T, leb, leb→le, eqb, eqb→eq}
 use lib.IntN.{ℤ, pos, negsuc, natAbs}
 use lib.ListN.{length, getD}
 use lib.Pow.{pow-lt}
-use lib.Signed.{ltZ, leZ}
-use borrow.Author.Tests.{ltb-true, ltb-false, lt-leb, le-leb}
+use lib.Signed.{ltZ}
 use mir.Facts.{and-yes}
 use Rattle.lists.specs.Every.{every, every-at}
 use Rattle.signed.specs.Ranges.{minus, nearestIn, eqZ}

@@ -2,9 +2,8 @@
 use mathlib.Core.Bool.{cond}
 use mathlib.Core.List.{List, [], _∷_, _++_}
 use Prim.Native.Nat.{ℕ, _+_}
-use lib.Dec.{leb}
 use lib.IntN.{ℤ, pos, _+ℤ_, _-ℤ_}
-use lib.ListN.{length, take, drop, set, replicate}
+use lib.ListN.{take, drop, set, replicate}
 use Rattle.package.specs.declared.Package.{Package}
 use Rattle.package.specs.declared.Probe.{Probe}
 use Rattle.package.specs.declared.Kind.{Kind}
