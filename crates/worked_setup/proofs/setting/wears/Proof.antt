@@ -1,0 +1,62 @@
+use Prim.Native.Nat.{_-_}
+use lib.ListN.{length}
+use borrow.Author.Needs.{needs}
+use Rattle.worked_setup.proofs.setting.wears.Statement.{statement}
+use Rattle.worked_setup.proofs.setting.wears.Tie as tie
+
+abbrev Inv-loop : tie.InvT-loop
+Inv-loop cases q₀ i₀ q i = Unit {0}
+
+abbrev μ-loop : tie.MeasureT-loop
+μ-loop cases q₀ i₀ q i = length cases - i
+
+loop-holds : tie.Need-loop-holds Inv-loop μ-loop
+loop-holds c = search needs
+
+mul-c : tie.Need-mul-c Inv-loop μ-loop
+mul-c c = search needs
+
+shared-slice-copy-out-c : tie.Need-shared-slice-copy-out-c Inv-loop μ-loop
+shared-slice-copy-out-c c = search needs
+
+array-copy-out-wear : tie.Need-array-copy-out-wear Inv-loop μ-loop
+array-copy-out-wear c = search needs
+
+array-copy-out-wear-2 : tie.Need-array-copy-out-wear-2 Inv-loop μ-loop
+array-copy-out-wear-2 c = search needs
+
+array-copy-out-wear-3 : tie.Need-array-copy-out-wear-3 Inv-loop μ-loop
+array-copy-out-wear-3 c = search needs
+
+wear-requires : tie.Need-wear-requires Inv-loop μ-loop
+wear-requires c κs = search needs
+
+add-i : tie.Need-add-i Inv-loop μ-loop
+add-i c = search needs
+
+loop-less : tie.Need-loop-less Inv-loop μ-loop
+loop-less c = search needs
+
+loop-again : tie.Need-loop-again Inv-loop μ-loop
+loop-again c = search needs
+
+returns : tie.Need-returns Inv-loop μ-loop
+returns c = search needs
+
+pub wears-spec : {M : Type 1} → statement M
+wears-spec =
+    tie.close
+    (tie.spec
+    Inv-loop
+    μ-loop
+    loop-holds
+    mul-c
+    shared-slice-copy-out-c
+    array-copy-out-wear
+    array-copy-out-wear-2
+    array-copy-out-wear-3
+    wear-requires
+    add-i
+    loop-less
+    loop-again
+    returns)
