@@ -1,11 +1,19 @@
 // A measurement with zero offset. Document 01, 'Zero offset kinds'.
+use package::DONE;
 use package::Form;
+use package::IN_TOLERANCE;
 use package::Kind;
+use package::NO_SUCH_NUMBER;
+use package::OFFSET_LIMIT;
+use package::OFFSETS;
+use package::OUTSIDE_RANGE;
 use package::Offset;
 use package::Package;
 use package::Probing;
+use package::TOLERANCE_LIMIT;
+use package::WRONG_LIMITS;
+use package::ZERO_BRANCH;
 use package::ZeroMeasurement;
-use package::{DONE, IN_TOLERANCE, NO_SUCH_NUMBER, OFFSETS, OFFSET_LIMIT, OUTSIDE_RANGE, TOLERANCE_LIMIT, WRONG_LIMITS, ZERO_BRANCH};
 use results::Outcome;
 use results::Tests;
 use results::narrow;
@@ -97,15 +105,9 @@ fn growth_if(on: bool, by: i64) -> Growth
     ensures { λ r. ⌜ r ≡ growthIf on by ⌝ }
 {
     if on {
-        return Growth {
-            on,
-            by,
-        };
+        return Growth { on, by };
     }
-    Growth {
-        on,
-        by: 0,
-    }
+    Growth { on, by: 0 }
 }
 
 // The growth of each axis: a plane's by twice its deviation, a pair's by its shift.
