@@ -1,2 +1,0 @@
-pub mod Tool
-pub mod Zero
