@@ -2,12 +2,12 @@
 use mathlib.Core.Path.{_≡_, sym, _∙_}
 use mathlib.Core.Bool.{Bool, true, false, not}
 use Prim.Native.Nat.{ℕ, suc, _<_, _^_}
-use lib.Dec.{T, ltb}
+use lib.Dec.{T, leb, ltb}
 use lib.IntN.{ℤ, pos}
 use lib.Signed.{_≤ℤ_, mag}
 use mir.Syntax.{Width, w64}
 use mir.Val.{SFits, hbits, toZ, ofZ}
-use mir.Facts.{toZ-ofZ, sfits-lit}
+use mir.Facts.{toZ-ofZ, sfits-lit, sfits-widen}
 use borrow.Author.Tests.{not-true, not-false}
 use Rattle.signed.specs.Ranges.{within}
 use Rattle.signed.specs.RangeLaws.{within-is, within-fits, below-top}
@@ -40,4 +40,15 @@ pub casts : (w : Width) (lo hi : ℤ) {z : ℤ} → SFits w64 z → T (ltb (mag 
     → within lo hi z ≡ true → Cast w z
 casts w lo hi {z} f l h e =
     let g = within-fits lo hi z (sfits-lit l) (sfits-lit h) e in
+    record { fits = rw (toZ-ofZ f) g; value = rw (toZ-ofZ f) (toZ-ofZ g) }
+
+-- a value of a narrower type v that the code casts to i64
+pub record Widened (v : Width) (z : ℤ) : Type 0 where
+  pub fits : SFits w64 (toZ v (ofZ v z))
+  pub value : toZ w64 (ofZ w64 (toZ v (ofZ v z))) ≡ z
+
+pub widened : (v : Width) (z : ℤ) → T (leb (hbits v) 63) → mag z < 2 ^ hbits v → Widened v z
+widened v z t h =
+    let f : SFits v z = record { sfits = h } in
+    let g : SFits w64 z = sfits-widen t f in
     record { fits = rw (toZ-ofZ f) g; value = rw (toZ-ofZ f) (toZ-ofZ g) }

@@ -1,0 +1,105 @@
+-- What the functions of src/lib.rt meet: the definitions of `rules`, with the code's structs.
+use mathlib.Core.Path.{_≡_}
+use mathlib.Core.Bool.{Bool, true, false, not, cond, _&&_, _||_}
+use mathlib.Core.List.{List, [], _∷_}
+use Prim.Native.Nat.{_≤_}
+use lib.IntN.{ℤ, pos, natAbs, _+ℤ_, _-ℤ_, _*ℤ_}
+use lib.Signed.{leZ}
+use Rattle.signed.specs.Ranges.{within, size, eqZ}
+use Rattle.package.specs.declared.Package.{Package}
+use Rattle.package.specs.declared.Kind.{Kind}
+use Rattle.package.specs.declared.Offset.{Offset}
+use Rattle.package.specs.declared.Probing.{Probing}
+use Rattle.package.specs.declared.ZeroMeasurement.{ZeroMeasurement}
+use Rattle.rules.specs.Stores.{pick, offsetRange, offsetOf, withOffset}
+use Rattle.rules.specs.Kinds.{byForm}
+use Rattle.rules.specs.Sizes.{positionsOk, calibratedOk, pairsOk}
+use Rattle.rules.specs.Zero.{zeroKindOf, probeIn, growth, eachCorrected, axisLeft, zeroNumbers, zeroArguments, zeroRecords, zeroDone}
+use Rattle.rules.specs.Results.{ovr, ovi, filled, array, zeroResults}
+use Rattle.sizes.specs.Sizes.{sizesOf}
+use Rattle.sizes.specs.declared.Sizes.{Sizes}
+use Rattle.results.specs.Results.{entriesOf, outcomeOf}
+use Rattle.results.specs.declared.Outcome.{Outcome}
+use Rattle.results.specs.declared.Tests.{Tests}
+use Rattle.zero_offset.specs.declared.Growth.{Growth}
+use Rattle.zero_offset.specs.declared.Growths.{Growths}
+use Rattle.zero_offset.specs.declared.Axes.{Axes}
+use Rattle.zero_offset.specs.declared.Shifted.{Shifted}
+
+-- what the rules of the arguments tell where they passed
+pub record ZeroPassed (a : ZeroMeasurement) : Type 0 where
+  pub numbers : zeroNumbers a ≡ true
+  pub positions : positionsOk (zeroKindOf a) (a .part) ≡ true
+  pub tsa : within (pos 0) (pos 1000000) (a .tsa) ≡ true
+
+-- ---- the growths, of the sizes
+abbrev pub growthIf : Bool → ℤ → Growth
+growthIf on by = record { on = on; by = cond on by (pos 0) }
+
+unfoldable pub growthsFrom : Kind → Probing → Sizes → Growths
+growthsFrom k a s =
+    let plane = pos 2 *ℤ (s .measured -ℤ a .setpoint) in
+    byForm (k .form)
+    (record { first = growthIf (eqZ (a .axis) (pos 1)) plane; second = growthIf (eqZ (a .axis) (pos 2)) plane; third = growthIf (eqZ (a .axis) (pos 3)) plane })
+    (record {
+      first = growthIf (eqZ (a .axis) (pos 1)) (s .first .shift);
+      second = growthIf (eqZ (a .axis) (pos 2)) (s .second .shift);
+      third = growthIf false (pos 0);
+    })
+    (record { first = growthIf true (s .first .shift); second = growthIf true (s .second .shift); third = growthIf false (pos 0) })
+
+pub record SmallGrowths (g : Growths) : Type 0 where
+  pub first : natAbs (g .first .by) ≤ 100000000
+  pub second : natAbs (g .second .by) ≤ 100000000
+  pub third : natAbs (g .third .by) ≤ 100000000
+
+abbrev pub growthOk : Growth → ℤ → Bool
+growthOk g tsa = not (g .on) || leZ (size (g .by)) (pos 2 *ℤ tsa)
+
+abbrev pub growthsOk : Growths → ℤ → Bool
+growthsOk g tsa = growthOk (g .first) tsa && growthOk (g .second) tsa && growthOk (g .third) tsa
+
+-- ---- the axes after them
+abbrev pub leftOk : Growth → ℤ → Bool
+leftOk g left = not (g .on) || offsetRange left
+
+abbrev pub axesOk : Growths → Axes → Bool
+axesOk g x = leftOk (g .first) (x .first) && leftOk (g .second) (x .second) && leftOk (g .third) (x .third)
+
+abbrev pub leftFrom : Offset → Growths → Axes
+leftFrom o g =
+    record {
+      first = pick (pos 0) (o .axes) (pos 1) +ℤ g .first .by;
+      second = pick (pos 0) (o .axes) (pos 2) +ℤ g .second .by;
+      third = pick (pos 0) (o .axes) (pos 3) +ℤ g .third .by;
+    }
+
+-- ---- what is found of the records
+unfoldable pub shiftedIn : Package → ZeroMeasurement → Shifted
+shiftedIn p a =
+    let sizes = sizesOf (probeIn p a) (zeroKindOf a) (a .part) in
+    let growths = growthsFrom (zeroKindOf a) (a .part) sizes in
+    record { sizes = sizes; growths = growths; axes = leftFrom (offsetOf p (a .offset)) growths }
+
+unfoldable pub zeroTests : Package → ZeroMeasurement → Tests
+zeroTests p a =
+    record {
+      calibrated = calibratedOk (probeIn p a) (zeroKindOf a) (a .part);
+      pairs = pairsOk (probeIn p a) (zeroKindOf a) (a .part);
+      tsa = eachCorrected a (λ n. leZ (size (growth p a n)) (pos 2 *ℤ a .tsa));
+      tdif = true;
+      range = eachCorrected a (λ n. offsetRange (axisLeft p a n));
+    }
+
+-- ---- the 42 numbers, the package after it, the outcome
+unfoldable pub zeroNumbersOf : ZeroMeasurement → Sizes → List ℤ
+zeroNumbersOf a s = filled (array (entriesOf (zeroKindOf a) (a .part) s (pos 0))) (ovr 28 (a .tsa) ∷ ovi 0 (a .offset) ∷ [])
+
+abbrev pub offsetLeft : Package → ℤ → Axes → Package
+offsetLeft p offset x = withOffset p offset (record { axes = x .first ∷ x .second ∷ x .third ∷ [] })
+
+abbrev pub zeroAccepted : Package → ZeroMeasurement → Outcome
+zeroAccepted p a = record { after = zeroDone p a; refusal = 0; branch = 6; verdict = 0; numbers = zeroResults p a }
+
+unfoldable pub zeroOutcome : Package → ZeroMeasurement → Outcome
+zeroOutcome p a = outcomeOf p (zeroArguments a) (zeroRecords p a) (zeroAccepted p a)
