@@ -17,7 +17,7 @@ use Rattle.rules.specs.InRangeKept.{left-in-range, at-most}
 use Rattle.rules.specs.MeasuringLaws.{tool-numbers, limits-passed}
 use Rattle.tool_offset.specs.Tool.{ToolPassed}
 use Rattle.tolerance.specs.MeanSize.{mean-size}
-use Rattle.tool_offset.specs.ToolLaws.{value-size, correction-size}
+use Rattle.tool_offset.specs.ToolLaws.{read-size, value-size, correction-size}
 use Rattle.tool_offset.proofs.decision_of.Statement.{statement}
 use Rattle.tool_offset.proofs.decision_of.Tie as tie
 
@@ -38,8 +38,10 @@ old-size c = value-size (c .value-at .result) (c .value-at .ensures .1)
 mean-step-requires : tie.Need-mean-step-requires
 mean-step-requires c κs =
     let s = c .before .before .before .before .before in
-    rw (read (c .before .value-at .result) (c .before .value-at .ok), toZ-ofZ (s .fits .d), read (s .args .a .k) (c .struct-told2 .given .1 .1 .1 .1 .0 .1))
-    ((omega (arith, old-size (c .before)), s .pre .1), s .pre .0 .weight)
+    let v = c .before .value-at .result in (
+      (read-size 100000000 v (read v (c .before .value-at .ok)) (omega (arith, old-size (c .before))), read-size 100000000 (s .args .d) (toZ-ofZ (s .fits .d)) (s .pre .1)),
+      rw (read (s .args .a .k) (c .struct-told2 .given .1 .1 .1 .1 .0 .1)) (s .pre .0 .weight),
+    )
 
 -- the new mean
 next : (c : tie.After-mean-step) →

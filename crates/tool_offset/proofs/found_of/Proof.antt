@@ -1,7 +1,7 @@
-use mathlib.Core.Path.{_≡_}
+use mathlib.Core.Path.{_≡_, _∙_}
 use Prim.Native.Nat.{_≤_}
 use native.Mathlib.Omega.{arith}
-use lib.IntN.{natAbs, _-ℤ_}
+use lib.IntN.{ℤ, natAbs, _-ℤ_}
 use mir.Syntax.{w64}
 use mir.Val.{toZ, ofZ}
 use borrow.Author.Needs.{needs}
@@ -12,7 +12,7 @@ use Rattle.rules.specs.Tool.{toolKindOf, empiricalOf}
 use Rattle.rules.specs.MeasuringLaws.{tool-numbers}
 use Rattle.sizes.specs.Sizes.{sizesOf}
 use Rattle.sizes.specs.SizeLaws.{SizesSmall, sizes-small}
-use Rattle.tool_offset.specs.ToolLaws.{value-size, factor-size, found-is}
+use Rattle.tool_offset.specs.ToolLaws.{read-size, value-size, factor-size, found-is}
 use Rattle.tool_offset.proofs.found_of.Statement.{statement}
 use Rattle.tool_offset.proofs.found_of.Tie as tie
 
@@ -50,8 +50,16 @@ deviation-of-requires c κs =
     let v = c .before .before in
     let z = v .before .before in
     let s = z .before .before .before .before in
-    rw (read (z .sizes-of .result .measured) (c .before .struct-told2 .given .0 .1), read (v .value-at .result) (v .value-at .ok), read (s .args .a .part .setpoint) (c .struct-told3 .given .1 .1 .1 .1 .0 .1))
-    (small z .measured, ev-size v, small z .setpoint)
+    let m = z .sizes-of .result .measured in
+    let p = s .args .a .part .setpoint in (
+      read-size 20200000 m (read m (c .before .struct-told2 .given .0 .1)) (small z .measured),
+      read-size 32768 (v .value-at .result) (read (v .value-at .result) (v .value-at .ok)) (ev-size v),
+      read-size 10000000 p (read p (c .struct-told3 .given .1 .1 .1 .1 .0 .1)) (small z .setpoint),
+    )
+
+deviation-read : (m e p : ℤ) → toZ w64 (ofZ w64 m) ≡ m → toZ w64 (ofZ w64 e) ≡ e → toZ w64 (ofZ w64 p) ≡ p
+    → toZ w64 (ofZ w64 m) -ℤ toZ w64 (ofZ w64 e) -ℤ toZ w64 (ofZ w64 p) ≡ m -ℤ e -ℤ p
+deviation-read m e p hm he hp = rw (hm, he, hp)
 
 deviation : (c : tie.After-deviation-of) →
     let v = c .before .before .before in
@@ -61,11 +69,11 @@ deviation c =
     let v = c .before .before .before in
     let z = v .before .before in
     let s = z .before .before .before .before in
-    rw (
-      read (z .sizes-of .result .measured) (c .before .before .struct-told2 .given .0 .1),
-      read (v .value-at .result) (v .value-at .ok),
-      read (s .args .a .part .setpoint) (c .before .struct-told3 .given .1 .1 .1 .1 .0 .1),
-    ) at (c .deviation-of .ensures)
+    let m = z .sizes-of .result .measured in
+    let e = v .value-at .result in
+    let p = s .args .a .part .setpoint in
+    c .deviation-of .ensures
+    ∙ deviation-read m e p (read m (c .before .before .struct-told2 .given .0 .1)) (read e (v .value-at .ok)) (read p (c .before .struct-told3 .given .1 .1 .1 .1 .0 .1))
 
 deviation-size : (c : tie.After-deviation-of) → natAbs (c .deviation-of .result) ≤ 100000000
 deviation-size c =
@@ -78,7 +86,7 @@ deviation-size c =
 
 decision-of-requires : tie.Need-decision-of-requires
 decision-of-requires c κs =
-    (c .before .before .before .before .before .before .before .before .before .pre .0, rw (read (c .deviation-of .result) (c .deviation-of .ok)) (deviation-size c))
+    (c .before .before .before .before .before .before .before .before .before .pre .0, read-size 100000000 (c .deviation-of .result) (read (c .deviation-of .result) (c .deviation-of .ok)) (deviation-size c))
 
 on-length-requires : tie.Need-on-length-requires
 on-length-requires c κs = search needs
