@@ -72,7 +72,7 @@ pub fn has_room(length: usize, place: usize) -> bool
     place <= length - 42
 }
 
-// Writes the numbers to the front of the part.
+// Writes the numbers to the front of the part. No call of a user.
 pub fn write_numbers(numbers: [i32; 42], part: &mut [i32])
     requires { ⌜ 42 ≤ length (now part) ⌝ }
     ensures { λ _. ⌜ now (part .exit) ≡ numbers ++ drop 42 (now (part .entry)) ⌝ }
@@ -85,7 +85,7 @@ pub fn write_numbers(numbers: [i32; 42], part: &mut [i32])
     }
 }
 
-// A number small enough for the array.
+// A number small enough for the array. No call of a user.
 pub fn narrow(v: i64) -> i32
     requires { ⌜ natAbs v ≤ 1000000000 ⌝ }
     ensures { λ r. ⌜ r ≡ v ⌝ }
@@ -103,7 +103,7 @@ fn cycle_of(form: Form) -> i32
     }
 }
 
-// The numbers that both ways of measuring have, with 0 in all other places.
+// The numbers that both ways of measuring have, with 0 in all other places. No call of a user.
 pub fn size_numbers(k: Kind, a: Probing, s: Sizes, ev: i64) -> [i32; 42]
     requires { ⌜ Small (entriesOf k a s ev) ⌝ }
     ensures { λ r. ⌜ r ≡ array (entriesOf k a s ev) ⌝ }
@@ -125,7 +125,7 @@ pub fn size_numbers(k: Kind, a: Probing, s: Sizes, ev: i64) -> [i32; 42]
     n
 }
 
-// A measurement refused: 42 zeros save the number in the last place.
+// A measurement refused: 42 zeros save the number in the last place. No call of a user.
 pub fn refused(p: Package, n: u32) -> Outcome
     requires { ⌜ n ≤ 9 ⌝ }
     ensures { λ r. ⌜ r ≡ refusedOutcome p n ⌝ }

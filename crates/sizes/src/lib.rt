@@ -171,7 +171,7 @@ fn axis_calibrated(x: Probe, axis: i64) -> bool
     calibrated_in(x, axis, 0) & calibrated_in(x, axis, 1)
 }
 
-// Whether every direction that a measurement needs is calibrated.
+// Whether every direction that a measurement needs is calibrated. No call of a user.
 pub fn calibrated_ok(x: Probe, k: Kind, a: Probing) -> bool
     requires { ⌜ numbersOk k a ≡ true ⌝ }
     ensures { λ r. ⌜ r ≡ calibratedOk x k a ⌝ }
@@ -302,7 +302,7 @@ fn diameter_of(abscissa: i64, ordinate: i64) -> i64
     ordinate
 }
 
-// The measured size and pairs of a measurement whose numbers and positions are in range.
+// The measured size and pairs of a measurement whose numbers and positions are in range. No call of a user.
 pub fn sizes_of(x: Probe, k: Kind, a: Probing) -> Sizes
     requires { ⌜ numbersOk k a ≡ true ⌝ }
     requires { ⌜ positionsOk k a ≡ true ⌝ }
