@@ -73,7 +73,13 @@ fn read_whole(s: &[u8]) -> Whole
         if b == COMMA {
             break;
         }
-        if (b < NOUGHT) | (NINE < b) | (i == MOST_DIGITS) {
+        if b < NOUGHT {
+            return Whole::Bad;
+        }
+        if NINE < b {
+            return Whole::Bad;
+        }
+        if i == MOST_DIGITS {
             return Whole::Bad;
         }
         n = 10 * n + (b - NOUGHT) as u32;

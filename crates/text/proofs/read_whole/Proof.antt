@@ -1,55 +1,109 @@
+use mathlib.Core.Path.{_≡_, _∙_, ap, sym, subst}
+use mathlib.Core.Bool.{Bool, true, false, _&&_}
+use mathlib.Core.List.{List, [], _∷_}
+use mathlib.Core.Logic.{⊎-elim}
+use Prim.Native.Nat.{ℕ, _+_, _*_, _^_, _≤_, _<_, _-_}
+use native.Mathlib.Nat.{pow-succ', pow-le-pow-right}
+use native.Mathlib.Numerals.{add-one}
+use native.Mathlib.Omega.{arith}
+use borrow.Author.Needs.{needs}
+use lib.Dec.{eqb, ltb}
+use lib.ListN.{length, getD, drop}
+use lib.Seq.{getD-take}
+use Rattle.text.specs.Numbers.{nought}
+use Rattle.text.specs.Pieces.{comma, upTo}
+use Rattle.text.specs.PieceLaws.{up-next, up-hit, up-end, up-take}
+use Rattle.text.proofs.Laws.{Passed, none-passed, digit-passed, below-digits, above-digits, too-many, none, ended}
 use Rattle.text.proofs.read_whole.Statement.{statement}
 use Rattle.text.proofs.read_whole.Tie as tie
 use Rattle.text.proofs.read_whole.Reads as reads
 use Rattle.text.proofs.read_whole.Lts as lts
 
 abbrev Inv-loop : tie.InvT-loop
-Inv-loop s n₀ i₀ n i = ?
+Inv-loop s n₀ i₀ n i = (i ≤ length s) × (i ≤ 8) × (n < 10 ^ i) × Passed (upTo comma s) n i (upTo comma (drop i s))
 
 abbrev μ-loop : tie.MeasureT-loop
-μ-loop s n₀ i₀ n i = ?
+μ-loop s n₀ i₀ n i = length s - i
+
+-- the byte at i is no comma, so it is the field's
+abbrev At : (s : List ℕ) (n i : ℕ) → Type 0
+At s n i = Passed (upTo comma s) n i (getD s i 0 ∷ upTo comma (drop (i + 1) s))
+
+next : (c : tie.Else1 Inv-loop μ-loop) → At (c .before .before .before .before .args .s .now) (c .before .before .before .loop .n) (c .before .before .before .loop .i)
+next c =
+    let l = c .before .before .before in
+    rw (up-next comma (l .before .args .s .now) (l .loop .i) (omega arith) (c .if1 .left)) at (l .loop .inv .3)
+
+-- at a comma or the end
+stopped : (c : tie.Left-loop Inv-loop μ-loop) → Passed (upTo comma (c .before .before .args .s .now)) (c .before .loop .n) (c .before .loop .i) []
+stopped c =
+    let s = c .before .before .args .s .now in
+    let i = c .before .loop .i in
+    ⊎-elim
+    (λ w. rw (up-end comma s i (w .left)) at (c .before .loop .inv .3))
+    (λ w. rw (up-hit comma s i (w .0 .taken) (w .2 .taken)) at (c .before .loop .inv .3))
+    (c .loop-test .came)
+
+-- the first byte is the field's first
+first : (s : List ℕ) (n i : ℕ) → Passed (upTo comma s) n i [] → 1 ≤ i → getD (upTo comma s) 0 0 ≡ getD s 0 0
+first s n i p h = ap (λ (l : List ℕ). getD l 0 0) (sym (up-take comma s)) ∙ getD-take (length (upTo comma s)) s 0 0 (omega (arith, p .size))
+
+power : (c : tie.At-loop Inv-loop μ-loop) → c .loop .i < 8 → 10 ^ c .loop .i ≤ 10 ^ 7
+power c h = pow-le-pow-right (omega arith) {j = 7} (omega arith)
 
 loop-holds : tie.Need-loop-holds Inv-loop μ-loop
-loop-holds c = ?
+loop-holds c = (omega arith, omega arith, omega arith, none-passed _)
 
 shared-slice-read-b : tie.Need-shared-slice-read-b Inv-loop μ-loop
-shared-slice-read-b c = ?
+shared-slice-read-b c = search needs
 
 returns : tie.Need-returns Inv-loop μ-loop
-returns c = ?
-
-mul-n : tie.Need-mul-n Inv-loop μ-loop
-mul-n c = ?
-
-sub-n : tie.Need-sub-n Inv-loop μ-loop
-sub-n c = ?
-
-cast-n : tie.Need-cast-n Inv-loop μ-loop
-cast-n c = ?
-
-add-n : tie.Need-add-n Inv-loop μ-loop
-add-n c = ?
-
-add-i : tie.Need-add-i Inv-loop μ-loop
-add-i c = ?
-
-loop-less : tie.Need-loop-less Inv-loop μ-loop
-loop-less c = ?
-
-loop-again : tie.Need-loop-again Inv-loop μ-loop
-loop-again c = ?
+returns c = sym (below-digits (next (c .before)) (c .if2 .taken))
 
 returns-2 : tie.Need-returns-2 Inv-loop μ-loop
-returns-2 c = ?
-
-shared-slice-read-if4 : tie.Need-shared-slice-read-if4 Inv-loop μ-loop
-shared-slice-read-if4 c = ?
+returns-2 c = sym (above-digits (next (c .before .before)) (c .if3 .taken))
 
 returns-3 : tie.Need-returns-3 Inv-loop μ-loop
-returns-3 c = ?
+returns-3 c = sym (too-many (next (c .before .before .before)) (c .if4 .taken))
+
+mul-n : tie.Need-mul-n Inv-loop μ-loop
+mul-n c = omega (arith, power (c .before .before .before .before .before .before) (omega arith))
+
+cast-n : tie.Need-cast-n Inv-loop μ-loop
+cast-n c = search needs
+
+add-n : tie.Need-add-n Inv-loop μ-loop
+add-n c = omega (arith, power (c .before .before .before .before .before .before) (omega arith))
+
+add-i : tie.Need-add-i Inv-loop μ-loop
+add-i c = search needs
+
+loop-less : tie.Need-loop-less Inv-loop μ-loop
+loop-less c = search needs
+
+loop-again : tie.Need-loop-again Inv-loop μ-loop
+loop-again c =
+    let l = c .before .before .before .before .before .before in
+    let p : 10 ^ (l .loop .i + 1) ≡ 10 * 10 ^ l .loop .i = rw (add-one (l .loop .i)) (pow-succ' 10 (l .loop .i)) in
+    (omega arith, omega arith, omega arith, digit-passed (next (c .before .before .before)) (c .before .before .if2 .left) (c .before .if3 .left))
 
 returns-4 : tie.Need-returns-4 Inv-loop μ-loop
-returns-4 c = ?
+returns-4 c = sym (none (stopped (c .before)) (c .if5 .taken))
+
+shared-slice-read-if6 : tie.Need-shared-slice-read-if6 Inv-loop μ-loop
+shared-slice-read-if6 c = search needs
+
+returns-5 : tie.Need-returns-5 Inv-loop μ-loop
+returns-5 c =
+    let l = c .before .before .before in
+    let p = stopped l in
+    sym (ended p true (omega arith) (omega arith) (rw (first _ _ _ p (omega arith)) (c .if6 .taken)))
+
+returns-6 : tie.Need-returns-6 Inv-loop μ-loop
+returns-6 c =
+    let l = c .before .before .before in
+    let p = stopped l in
+    sym (ended p false (omega arith) (omega arith) (rw (first _ _ _ p (omega arith)) (c .if6 .left)))
 
 pub read-whole-spec : {M : Type 1} → statement M
 read-whole-spec =
@@ -60,14 +114,15 @@ read-whole-spec =
     loop-holds
     shared-slice-read-b
     returns
+    returns-2
+    returns-3
     mul-n
-    sub-n
     cast-n
     add-n
     add-i
     loop-less
     loop-again
-    returns-2
-    shared-slice-read-if4
-    returns-3
-    returns-4)
+    returns-4
+    shared-slice-read-if6
+    returns-5
+    returns-6)
