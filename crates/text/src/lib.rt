@@ -9,10 +9,15 @@ ghost use Rattle.text.specs.Decimals.{decimal, signedDecimal};
 ghost use Rattle.text.specs.Written.{written};
 
 pub const COMMA: u8 = 44;
+
 pub const LINE_FEED: u8 = 10;
+
 pub const MINUS: u8 = 45;
+
 const NOUGHT: u8 = 48;
+
 const NINE: u8 = 57;
+
 const MOST_DIGITS: usize = 8;
 
 // What a field spells.
@@ -70,10 +75,10 @@ fn read_whole(s: &[u8]) -> Whole
     let mut i: usize = 0;
     while i < s.len() {
         let b = s[i];
-        if b == COMMA {
-            break;
-        }
         if b < NOUGHT {
+            if b == COMMA {
+                break;
+            }
             return Whole::Bad;
         }
         if NINE < b {

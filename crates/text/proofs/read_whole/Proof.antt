@@ -1,5 +1,5 @@
-use mathlib.Core.Path.{_≡_, _∙_, ap, sym, subst}
-use mathlib.Core.Bool.{Bool, true, false, _&&_}
+use mathlib.Core.Path.{_≡_, _∙_, ap, sym}
+use mathlib.Core.Bool.{Bool, true, false, cond, not, _&&_}
 use mathlib.Core.List.{List, [], _∷_}
 use mathlib.Core.Logic.{⊎-elim}
 use Prim.Native.Nat.{ℕ, _+_, _*_, _^_, _≤_, _<_, _-_}
@@ -9,15 +9,13 @@ use native.Mathlib.Omega.{arith}
 use borrow.Author.Needs.{needs}
 use lib.Dec.{eqb, ltb}
 use lib.ListN.{length, getD, drop}
-use lib.Seq.{getD-take}
-use Rattle.text.specs.Numbers.{nought}
+use Rattle.text.specs.declared.Whole.the-variants.{Digits, Bad}
+use Rattle.text.specs.Numbers.{nought, wholeOf}
 use Rattle.text.specs.Pieces.{comma, upTo}
-use Rattle.text.specs.PieceLaws.{up-next, up-hit, up-end, up-take}
+use Rattle.text.specs.PieceLaws.{up-next, up-hit, up-end, up-first}
 use Rattle.text.proofs.Laws.{Passed, none-passed, digit-passed, below-digits, above-digits, too-many, none, ended}
 use Rattle.text.proofs.read_whole.Statement.{statement}
 use Rattle.text.proofs.read_whole.Tie as tie
-use Rattle.text.proofs.read_whole.Reads as reads
-use Rattle.text.proofs.read_whole.Lts as lts
 
 abbrev Inv-loop : tie.InvT-loop
 Inv-loop s n₀ i₀ n i = (i ≤ length s) × (i ≤ 8) × (n < 10 ^ i) × Passed (upTo comma s) n i (upTo comma (drop i s))
@@ -25,14 +23,18 @@ Inv-loop s n₀ i₀ n i = (i ≤ length s) × (i ≤ 8) × (n < 10 ^ i) × Pass
 abbrev μ-loop : tie.MeasureT-loop
 μ-loop s n₀ i₀ n i = length s - i
 
--- the byte at i is no comma, so it is the field's
-abbrev At : (s : List ℕ) (n i : ℕ) → Type 0
-At s n i = Passed (upTo comma s) n i (getD s i 0 ∷ upTo comma (drop (i + 1) s))
-
-next : (c : tie.Else1 Inv-loop μ-loop) → At (c .before .before .before .before .args .s .now) (c .before .before .before .loop .n) (c .before .before .before .loop .i)
-next c =
-    let l = c .before .before .before in
-    rw (up-next comma (l .before .args .s .now) (l .loop .i) (omega arith) (c .if1 .left)) at (l .loop .inv .3)
+-- a byte that is no comma is the field's
+next : (c : tie.After-shared-slice-known Inv-loop μ-loop)
+    → (getD (c .before .before .before .args .s .now) (c .before .before .loop .i) 0 ≡ comma → ⊥)
+    → Passed
+    (upTo comma (c .before .before .before .args .s .now))
+    (c .before .before .loop .n)
+    (c .before .before .loop .i)
+    (getD (c .before .before .before .args .s .now) (c .before .before .loop .i) 0
+    ∷ upTo comma (drop (c .before .before .loop .i + 1) (c .before .before .before .args .s .now)))
+next c h =
+    let l = c .before .before in
+    rw (up-next comma (l .before .args .s .now) (l .loop .i) (omega arith) h) at (l .loop .inv .3)
 
 -- at a comma or the end
 stopped : (c : tie.Left-loop Inv-loop μ-loop) → Passed (upTo comma (c .before .before .args .s .now)) (c .before .loop .n) (c .before .loop .i) []
@@ -41,12 +43,16 @@ stopped c =
     let i = c .before .loop .i in
     ⊎-elim
     (λ w. rw (up-end comma s i (w .left)) at (c .before .loop .inv .3))
-    (λ w. rw (up-hit comma s i (w .0 .taken) (w .2 .taken)) at (c .before .loop .inv .3))
+    (λ w. rw (up-hit comma s i (w .0 .taken) (w .3 .taken)) at (c .before .loop .inv .3))
     (c .loop-test .came)
 
--- the first byte is the field's first
-first : (s : List ℕ) (n i : ℕ) → Passed (upTo comma s) n i [] → 1 ≤ i → getD (upTo comma s) 0 0 ≡ getD s 0 0
-first s n i p h = ap (λ (l : List ℕ). getD l 0 0) (sym (up-take comma s)) ∙ getD-take (length (upTo comma s)) s 0 0 (omega (arith, p .size))
+-- and then by the test of the first byte
+answered : (c : tie.After-shared-slice-known2 Inv-loop μ-loop) (t : Bool)
+    → (ltb 1 (c .before .before .before .loop .i) && eqb (getD (c .before .before .before .before .args .s .now) 0 0) nought) ≡ t
+    → wholeOf (upTo comma (c .before .before .before .before .args .s .now)) ≡ cond (not t) (Digits (c .before .before .before .loop .n) (c .before .before .before .loop .i)) Bad
+answered c t e =
+    let p = stopped (c .before .before) in
+    ended p t (omega arith) (omega arith) (rw (up-first comma (c .before .before .before .before .args .s .now) (omega (arith, p .size))) e)
 
 power : (c : tie.At-loop Inv-loop μ-loop) → c .loop .i < 8 → 10 ^ c .loop .i ≤ 10 ^ 7
 power c h = pow-le-pow-right (omega arith) {j = 7} (omega arith)
@@ -58,22 +64,22 @@ shared-slice-read-b : tie.Need-shared-slice-read-b Inv-loop μ-loop
 shared-slice-read-b c = search needs
 
 returns : tie.Need-returns Inv-loop μ-loop
-returns c = sym (below-digits (next (c .before)) (c .if2 .taken))
+returns c = sym (below-digits (next (c .before .before) (c .if2 .left)) (c .before .if1 .taken))
 
 returns-2 : tie.Need-returns-2 Inv-loop μ-loop
-returns-2 c = sym (above-digits (next (c .before .before)) (c .if3 .taken))
+returns-2 c = sym (above-digits (next (c .before .before) (λ e. omega arith)) (c .if3 .taken))
 
 returns-3 : tie.Need-returns-3 Inv-loop μ-loop
-returns-3 c = sym (too-many (next (c .before .before .before)) (c .if4 .taken))
+returns-3 c = sym (too-many (next (c .before .before .before) (λ e. omega arith)) (c .if4 .taken))
 
 mul-n : tie.Need-mul-n Inv-loop μ-loop
-mul-n c = omega (arith, power (c .before .before .before .before .before .before) (omega arith))
+mul-n c = omega (arith, power (c .before .before .before .before .before) (omega arith))
 
 cast-n : tie.Need-cast-n Inv-loop μ-loop
 cast-n c = search needs
 
 add-n : tie.Need-add-n Inv-loop μ-loop
-add-n c = omega (arith, power (c .before .before .before .before .before .before) (omega arith))
+add-n c = omega (arith, power (c .before .before .before .before .before) (omega arith))
 
 add-i : tie.Need-add-i Inv-loop μ-loop
 add-i c = search needs
@@ -83,9 +89,9 @@ loop-less c = search needs
 
 loop-again : tie.Need-loop-again Inv-loop μ-loop
 loop-again c =
-    let l = c .before .before .before .before .before .before in
+    let l = c .before .before .before .before .before in
     let p : 10 ^ (l .loop .i + 1) ≡ 10 * 10 ^ l .loop .i = rw (add-one (l .loop .i)) (pow-succ' 10 (l .loop .i)) in
-    (omega arith, omega arith, omega arith, digit-passed (next (c .before .before .before)) (c .before .before .if2 .left) (c .before .if3 .left))
+    (omega arith, omega arith, omega arith, digit-passed (next (c .before .before .before) (λ e. omega arith)) (c .before .before .if1 .left) (c .before .if3 .left))
 
 returns-4 : tie.Need-returns-4 Inv-loop μ-loop
 returns-4 c = sym (none (stopped (c .before)) (c .if5 .taken))
@@ -94,16 +100,10 @@ shared-slice-read-if6 : tie.Need-shared-slice-read-if6 Inv-loop μ-loop
 shared-slice-read-if6 c = search needs
 
 returns-5 : tie.Need-returns-5 Inv-loop μ-loop
-returns-5 c =
-    let l = c .before .before .before in
-    let p = stopped l in
-    sym (ended p true (omega arith) (omega arith) (rw (first _ _ _ p (omega arith)) (c .if6 .taken)))
+returns-5 c = sym (answered (c .before) true (c .if6 .taken))
 
 returns-6 : tie.Need-returns-6 Inv-loop μ-loop
-returns-6 c =
-    let l = c .before .before .before in
-    let p = stopped l in
-    sym (ended p false (omega arith) (omega arith) (rw (first _ _ _ p (omega arith)) (c .if6 .left)))
+returns-6 c = sym (answered (c .before) false (c .if6 .left))
 
 pub read-whole-spec : {M : Type 1} → statement M
 read-whole-spec =
