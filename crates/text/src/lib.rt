@@ -8,15 +8,15 @@ ghost use Rattle.text.specs.Numbers.{wholeOf, fieldAt};
 ghost use Rattle.text.specs.Decimals.{decimal, signedDecimal};
 ghost use Rattle.text.specs.Written.{written};
 
-pub const COMMA: u8 = 44;
+pub const COMMA: u8 = b',';
 
-pub const LINE_FEED: u8 = 10;
+pub const LINE_FEED: u8 = b'\n';
 
-pub const MINUS: u8 = 45;
+pub const MINUS: u8 = b'-';
 
-const NOUGHT: u8 = 48;
+const NOUGHT: u8 = b'0';
 
-const NINE: u8 = 57;
+const NINE: u8 = b'9';
 
 const MOST_DIGITS: usize = 8;
 
@@ -67,7 +67,7 @@ pub fn count_lines(s: &[u8]) -> usize
     n
 }
 
-// The digits up to a comma or the end.
+// The digits up to a comma or the end, in one pass.
 fn read_whole(s: &[u8]) -> Whole
     ensures { λ r. ⌜ r ≡ wholeOf (upTo comma (now (s .entry))) ⌝ }
 {
