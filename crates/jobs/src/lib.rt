@@ -1,0 +1,309 @@
+// A job runs line by line. Document 01, 'Job files'.
+use job_text::FIELDS;
+use job_text::read_line;
+use measuring::measure_tool;
+use measuring::measure_zero;
+use package::Answer;
+use package::Calibration;
+use package::DONE;
+use package::EMPTY_JOB;
+use package::Limits;
+use package::MALFORMED_LINE;
+use package::Measured;
+use package::NO_ROOM;
+use package::Package;
+use package::Probing;
+use package::ToolMeasurement;
+use package::WRONG_JOB;
+use package::ZeroMeasurement;
+use probes::calibrate;
+use records::set_empirical;
+use records::set_offset;
+use records::set_wear;
+use text::COMMA;
+use text::LINE_FEED;
+use text::count_lines;
+use text::find;
+use text::put_byte;
+use text::put_number;
+use text::put_whole;
+ghost use mathlib.Core.Path.{_≡_};
+ghost use Prim.Native.Nat.{_+_, _≤_};
+ghost use lib.ListN.{length};
+ghost use Rattle.text.specs.Written.{written};
+ghost use Rattle.job_text.specs.Letters.{calibrationOf, probingOf, toolOf, zeroOf, lent};
+ghost use Rattle.job_text.specs.Lines.{says, saidBy};
+ghost use Rattle.rules.specs.Calls.{measureTool, measureZero};
+ghost use Rattle.jobs.specs.Answers.{noMeasurement, answer, ran, wholeField, signedField, rowText};
+ghost use Rattle.jobs.specs.AnswerLaws.{measuredStep};
+ghost use Rattle.jobs.specs.Jobs.{jobRefusal, jobRan, jobOutput};
+
+// The most bytes and lines of a job, and the bytes of output that it needs for each line.
+pub const JOB_LIMIT: usize = 65_536;
+
+pub const LINES_LIMIT: usize = 1_000;
+
+pub const LINE_ROOM: usize = 40;
+
+// The places of the result array that an answer has: OVR[16] and OVR[20].
+const DEVIATION: usize = 16;
+
+const CORRECTION: usize = 20;
+
+// What a line answers; the deviation is OVR[16], the correction c.
+pub struct Row {
+    pub number: u32,
+    pub refusal: u32,
+    pub branch: u32,
+    pub verdict: u32,
+    pub deviation: i32,
+    pub correction: i32,
+}
+
+// What a line leaves and answers.
+pub struct Step {
+    pub after: Package,
+    pub row: Row,
+}
+
+// The package that a job leaves, its refusal number, 0 when it ran, and the length of its output.
+pub struct Ran {
+    pub after: Package,
+    pub refusal: u32,
+    pub length: usize,
+}
+
+fn calibration_of(v: [i64; FIELDS]) -> Calibration
+    ensures { λ r. ⌜ r ≡ calibrationOf v ⌝ }
+{
+    Calibration {
+        probe: v[0],
+        axis: v[1],
+        direction: v[2],
+        setpoint: v[3],
+        raw: v[4],
+        tzl: v[5],
+        tsa: v[6],
+    }
+}
+
+fn probing_of(v: [i64; FIELDS]) -> Probing
+    ensures { λ r. ⌜ r ≡ probingOf v ⌝ }
+{
+    Probing {
+        kind: v[0],
+        probe: v[1],
+        axis: v[2],
+        direction: v[3],
+        setpoint: v[4],
+        c1: v[5],
+        c2: v[6],
+        r1: v[7],
+        r2: v[8],
+        r3: v[9],
+        r4: v[10],
+    }
+}
+
+fn limits_of(v: [i64; FIELDS]) -> Limits
+    ensures { λ r. ⌜ r ≡ toolOf v .limits ⌝ }
+{
+    Limits {
+        tzl: v[15],
+        tmv: v[16],
+        tul: v[17],
+        tll: v[18],
+        tdif: v[19],
+        tsa: v[20],
+    }
+}
+
+fn tool_of(v: [i64; FIELDS]) -> ToolMeasurement
+    ensures { λ r. ⌜ r ≡ toolOf v ⌝ }
+{
+    let part = probing_of(v);
+    let limits = limits_of(v);
+    ToolMeasurement {
+        part,
+        tool: v[11],
+        ev: v[12],
+        mv: v[13],
+        k: v[14],
+        limits,
+    }
+}
+
+fn zero_of(v: [i64; FIELDS]) -> ZeroMeasurement
+    ensures { λ r. ⌜ r ≡ zeroOf v ⌝ }
+{
+    let part = probing_of(v);
+    ZeroMeasurement {
+        part,
+        offset: v[11],
+        tsa: v[12],
+    }
+}
+
+// The answer of a line that does not measure.
+fn unmeasured(number: u32, refusal: u32) -> Row
+    ensures { λ r. ⌜ r ≡ answer number refusal noMeasurement ⌝ }
+{
+    Row {
+        number,
+        refusal,
+        branch: 0,
+        verdict: 0,
+        deviation: 0,
+        correction: 0,
+    }
+}
+
+// A line that sets or calibrates.
+fn set_line(number: u32, a: Answer) -> Step
+    ensures { λ r. ⌜ r ≡ record { after = a .after; row = answer number (a .refusal) noMeasurement } ⌝ }
+{
+    let row = unmeasured(number, a.refusal);
+    let after = a.after;
+    Step { after, row }
+}
+
+// A line that measures, by what its call answered and wrote.
+fn measured_line(number: u32, m: Measured, numbers: [i32; 42]) -> Step
+    ensures { λ r. ⌜ r ≡ measuredStep number m numbers ⌝ }
+{
+    let row = Row {
+        number,
+        refusal: m.refusal,
+        branch: m.branch,
+        verdict: m.verdict,
+        deviation: numbers[DEVIATION],
+        correction: numbers[CORRECTION],
+    };
+    let after = m.after;
+    Step { after, row }
+}
+
+// A line that measures with tool offset.
+fn tool_line(p: Package, number: u32, a: ToolMeasurement) -> Step
+    ensures { λ r. ⌜ r ≡ ran p number (says (measureTool a lent 0)) ⌝ }
+{
+    let mut numbers = [0i32; 42];
+    let m = measure_tool(p, a, &mut numbers, 0);
+    measured_line(number, m, numbers)
+}
+
+// A line that measures with zero offset.
+fn zero_line(p: Package, number: u32, a: ZeroMeasurement) -> Step
+    ensures { λ r. ⌜ r ≡ ran p number (says (measureZero a lent 0)) ⌝ }
+{
+    let mut numbers = [0i32; 42];
+    let m = measure_zero(p, a, &mut numbers, 0);
+    measured_line(number, m, numbers)
+}
+
+// Runs one line, its line feed left out.
+fn run_line(p: Package, number: u32, line: &[u8]) -> Step
+    ensures { λ r. ⌜ r ≡ ran p number (saidBy (now (line .entry))) ⌝ }
+{
+    let l = read_line(line);
+    let letter = l.letter;
+    let v = l.values;
+    match letter {
+        b'E' => set_line(number, set_empirical(p, v[0], v[1])),
+        b'W' => set_line(number, set_wear(p, v[0], v[1], v[2])),
+        b'O' => set_line(number, set_offset(p, v[0], v[1], v[2], v[3])),
+        b'C' => set_line(number, calibrate(p, calibration_of(v))),
+        b'T' => tool_line(p, number, tool_of(v)),
+        b'Z' => zero_line(p, number, zero_of(v)),
+        _ => {
+            let row = unmeasured(number, MALFORMED_LINE);
+            Step { after: p, row }
+        }
+    }
+}
+
+// Writes a number and the byte behind it from a place on, and answers the next place.
+fn put_whole_field(out: &mut [u8], at: usize, n: u32, byte: u8) -> usize
+    requires { ⌜ at + length (wholeField n byte) ≤ length (now out) ⌝ }
+    ensures { λ r. ⌜ (r ≡ at + length (wholeField n byte)) × (now (out .exit) ≡ written (now (out .entry)) at (wholeField n byte)) ⌝ }
+{
+    let k = put_whole(out, at, n);
+    put_byte(out, k, byte)
+}
+
+fn put_signed_field(out: &mut [u8], at: usize, z: i32, byte: u8) -> usize
+    requires { ⌜ at + length (signedField z byte) ≤ length (now out) ⌝ }
+    ensures { λ r. ⌜ (r ≡ at + length (signedField z byte)) × (now (out .exit) ≡ written (now (out .entry)) at (signedField z byte)) ⌝ }
+{
+    let k = put_number(out, at, z);
+    put_byte(out, k, byte)
+}
+
+// Writes the answer of a line from a place on, and answers the next place.
+fn put_row(out: &mut [u8], at: usize, r: Row) -> usize
+    requires { ⌜ at + length (rowText r) ≤ length (now out) ⌝ }
+    ensures { λ k. ⌜ (k ≡ at + length (rowText r)) × (now (out .exit) ≡ written (now (out .entry)) at (rowText r)) ⌝ }
+{
+    let refusal = put_whole_field(out, at, r.number, COMMA);
+    let branch = put_whole_field(out, refusal, r.refusal, COMMA);
+    let verdict = put_whole_field(out, branch, r.branch, COMMA);
+    let deviation = put_whole_field(out, verdict, r.verdict, COMMA);
+    let correction = put_signed_field(out, deviation, r.deviation, COMMA);
+    put_signed_field(out, correction, r.correction, LINE_FEED)
+}
+
+// Why a job does not run with room for so many bytes of output, 0 where it runs.
+fn job_refusal(job: &[u8], room: usize) -> u32
+    ensures { λ r. ⌜ r ≡ jobRefusal (now (job .entry)) room ⌝ }
+{
+    let size = job.len();
+    if size == 0 {
+        return EMPTY_JOB;
+    }
+    if JOB_LIMIT < size {
+        return WRONG_JOB;
+    }
+    if job[size - 1] != LINE_FEED {
+        return WRONG_JOB;
+    }
+    let lines = count_lines(job);
+    if LINES_LIMIT < lines {
+        return WRONG_JOB;
+    }
+    if room < LINE_ROOM * lines {
+        return NO_ROOM;
+    }
+    DONE
+}
+
+// Runs a job on a package and writes the answers of its lines to the front of the output.
+pub fn run_job(p: Package, job: &[u8], output: &mut [u8]) -> Ran
+    ensures { λ r. ⌜ (r ≡ jobRan p (now (job .entry)) (length (now (output .entry)))) × (now (output .exit) ≡ jobOutput p (now (job .entry)) (now (output .entry))) ⌝ }
+{
+    let refusal = job_refusal(job, output.len());
+    if refusal != DONE {
+        return Ran {
+            after: p,
+            refusal,
+            length: 0,
+        };
+    }
+    let mut q = p;
+    let mut number: u32 = 0;
+    let mut at: usize = 0;
+    let mut filled: usize = 0;
+    while at < job.len() {
+        let end = at + find(&job[at..], LINE_FEED);
+        number += 1;
+        let s = run_line(q, number, &job[at..end]);
+        q = s.after;
+        let row = s.row;
+        filled = put_row(output, filled, row);
+        at = end + 1;
+    }
+    Ran {
+        after: q,
+        refusal: DONE,
+        length: filled,
+    }
+}
