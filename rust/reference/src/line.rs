@@ -18,10 +18,12 @@ pub fn read_line(line: &[u8]) -> Result<Call, Refusal> {
         return Err(Refusal::Malformed);
     }
     let mut parts = line.split(|&byte| byte == b',');
-    let letter = parts.next().unwrap_or_default();
+    let Some(&[letter]) = parts.next() else {
+        return Err(Refusal::Malformed);
+    };
     let fields: Option<Vec<i64>> = parts.map(read_number).collect();
     fields
-        .and_then(|fields| call_of(letter, &fields))
+        .and_then(|fields| call_of(letter.into(), &fields))
         .ok_or(Refusal::Malformed)
 }
 
@@ -43,19 +45,19 @@ pub fn read_number(field: &[u8]) -> Option<i64> {
 }
 
 /// The call of a letter with as many fields as it takes.
-fn call_of(letter: &[u8], fields: &[i64]) -> Option<Call> {
+pub fn call_of(letter: char, fields: &[i64]) -> Option<Call> {
     match (letter, fields) {
-        (b"E", &[number, value]) => Some(Call::SetEmpirical { number, value }),
-        (b"W", &[tool, radius, length]) => Some(Call::SetWear {
+        ('E', &[number, value]) => Some(Call::SetEmpirical { number, value }),
+        ('W', &[tool, radius, length]) => Some(Call::SetWear {
             tool,
             radius,
             length,
         }),
-        (b"O", &[offset, v1, v2, v3]) => Some(Call::SetOffset {
+        ('O', &[offset, v1, v2, v3]) => Some(Call::SetOffset {
             offset,
             values: [v1, v2, v3],
         }),
-        (b"C", &[probe, axis, direction, setpoint, raw, tzl, tsa]) => {
+        ('C', &[probe, axis, direction, setpoint, raw, tzl, tsa]) => {
             Some(Call::Calibrate(Calibration {
                 probe,
                 axis,
@@ -66,8 +68,8 @@ fn call_of(letter: &[u8], fields: &[i64]) -> Option<Call> {
                 tsa,
             }))
         }
-        (b"T", fields) => tool_call(fields),
-        (b"Z", fields) => zero_call(fields),
+        ('T', fields) => tool_call(fields),
+        ('Z', fields) => zero_call(fields),
         _ => None,
     }
 }
