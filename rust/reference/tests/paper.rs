@@ -118,7 +118,7 @@ fn worked_branches() {
         let left = package.records().mv[1];
         let got = (answer.refusal, answer.branch, answer.array[20], left);
         assert_eq!(got, expected, "M {mean}, D {deviation}");
-        assert_eq!(i32::from(package.records().wears[3].radius), expected.2);
+        assert_eq!(package.records().wears[3].radius, expected.2);
     }
 }
 

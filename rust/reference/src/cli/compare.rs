@@ -142,7 +142,10 @@ pub fn compare(options: &Options) -> Result<ExitCode, String> {
 
 /// Prints the seed, the shrunk job and both outputs.
 fn report(subject: &Subject, seed: u64, text: &[u8], difference: &str) -> Result<(), String> {
-    let differs = |text: &[u8]| subject.difference(text).map(|found| found.is_some());
+    let differs = |text: &[u8]| {
+        let found = subject.difference(text);
+        found.map(|found| found == Some(difference))
+    };
     let small = shrink(text, differs)?;
     let printed = subject.print(&small)?;
     println!("difference at seed {seed}: {difference}");

@@ -1,7 +1,7 @@
 //! A job made small while it still shows a difference.
 
 /// Runs of the program that shrinking may take.
-const RUNS: usize = 1_500;
+const RUNS: usize = 400;
 
 /// Leaves lines out, in ever smaller groups, as long as the rest differs too.
 pub fn shrink<E>(

@@ -70,3 +70,31 @@ pub fn job(package: &mut Package, text: &str) -> String {
     let length = package.run_job(text.as_bytes(), &mut output).unwrap();
     String::from_utf8(output[..length].to_vec()).unwrap()
 }
+
+/// Checks the refusal of calls that change some fields.
+pub fn check<const N: usize>(letter: char, fields: [i64; N], rows: &[(&[(usize, i64)], u8)]) {
+    for (changes, refusal) in rows {
+        let answer = call(&mut calibrated(), letter, &with(fields, changes));
+        assert_eq!(answer.refusal, *refusal, "{letter} with {changes:?}");
+    }
+}
+
+/// Checks one field's values.
+pub fn check_field<const N: usize>(
+    letter: char,
+    fields: [i64; N],
+    place: usize,
+    rows: &[(i64, u8)],
+) {
+    for &(value, refusal) in rows {
+        check(letter, fields, &[(&[(place, value)], refusal)]);
+    }
+}
+
+/// An unused field takes any value.
+pub fn check_unused<const N: usize>(letter: char, fields: [i64; N], places: &[usize]) {
+    for &place in places {
+        let values = [i64::MIN, -10_000_001, 4, 10_000_001, i64::MAX];
+        check_field(letter, fields, place, &values.map(|value| (value, 0)));
+    }
+}
