@@ -3,6 +3,7 @@
 mod common;
 
 use common::{at, call, with, CALIBRATION, GROOVE};
+use reference::generate::{CallSource, Rng};
 use reference::{Package, ProbeStatus, Records, Refusal, BLOCK};
 
 #[test]
@@ -24,7 +25,7 @@ fn block_is_signed_and_low_byte_first() {
 
 #[test]
 fn every_block_comes_back() {
-    let mut rng = reference::generate::Rng::new(5);
+    let mut rng = Rng::new(5);
     for _ in 0..500 {
         let block: Vec<u8> = (0..BLOCK).map(|_| rng.draw() as u8).collect();
         let mut package = Package::fresh();
@@ -101,4 +102,41 @@ fn calibration_of_odd_records() {
     let refused = with(near, &[(4, 11)]);
     assert_eq!(call(&mut package, 'C', &refused).refusal, 7);
     assert_eq!(package.records().status[0], 0xff);
+}
+
+/// Records with any triggers and status, and the same as they are read.
+fn odd_and_read(rng: &mut Rng) -> (Package, Package) {
+    let mut odd = Records::fresh();
+    let mut read = Records::fresh();
+    for probe in 0..3 {
+        odd.status[probe] = rng.draw() as u8 | rng.draw() as u8;
+        read.status[probe] = odd.status(probe);
+        for place in 0..6 {
+            odd.triggers[probe][place] = (rng.draw() as i32) >> rng.below(32);
+            read.triggers[probe][place] = odd.trigger(probe, place) as i32;
+        }
+    }
+    (Package::from_records(odd), Package::from_records(read))
+}
+
+#[test]
+fn odd_records_answer_as_what_they_are_read_as() {
+    let mut rng = Rng::new(6);
+    let mut differing = 0;
+    for seed in 0..40 {
+        let (mut odd, mut read) = odd_and_read(&mut rng);
+        let mut source = CallSource::new(seed);
+        for _ in 0..300 {
+            let call = source.next_call();
+            differing += usize::from(odd != read);
+            assert_eq!(odd.apply(&call), read.apply(&call), "{call:?}");
+            for probe in 0..3 {
+                let trigger = |package: &Package, place| package.records().trigger(probe, place);
+                assert!((0..6).all(|place| trigger(&odd, place) == trigger(&read, place)));
+                let bits = |package: &Package| package.records().status(probe);
+                assert_eq!(bits(&odd), bits(&read));
+            }
+        }
+    }
+    assert!(differing > 1_000, "the records were hardly odd");
 }

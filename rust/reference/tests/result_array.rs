@@ -41,6 +41,7 @@ fn tool_hole() {
         (at::C1, 333),
         (at::C2, -444),
         (at::EV, 9),
+        (at::TLL, -140),
     ];
     let fields = with(with(GROOVE, &raws), &others);
     let mut package = package();
@@ -54,7 +55,7 @@ fn tool_hole() {
         (5, 1_100),
         (6, 650),
         (8, 200_150),
-        (12, 199_850),
+        (12, 199_860),
         (16, 62),
         (17, 434),
         (18, 1_538),
@@ -168,6 +169,31 @@ fn shaft_subtracts_and_web_subtracts_and_hole_adds() {
         let answer = call(&mut package, 'T', &fields);
         assert_eq!((answer.branch, answer.array[20]), (5, 101));
         assert_eq!(package.records().wears[3].radius, radius, "kind {kind}");
+    }
+}
+
+/// "Plane adds 2·s·c h, to length wear on axis 3, to radius wear on axes 1 and 2."
+#[test]
+fn plane_wear_by_axis_and_direction() {
+    for axis in 1..=3 {
+        for (direction, sign) in [(0, 1), (1, -1)] {
+            let changes = [
+                (at::KIND, 0),
+                (at::AXIS, axis),
+                (at::DIRECTION, direction),
+                (at::R1, 1101),
+            ];
+            let mut package = common::calibrated();
+            let answer = call(&mut package, 'T', &with(GROOVE, &changes));
+            assert_eq!((answer.branch, answer.array[20]), (5, 101));
+            let wear = package.records().wears[3];
+            let moved = if axis == 3 {
+                [0, 202 * sign]
+            } else {
+                [202 * sign, 0]
+            };
+            assert_eq!([wear.radius, wear.length], moved, "axis {axis}");
+        }
     }
 }
 
