@@ -58,6 +58,10 @@ fn calibration() {
         &[(0, 2), (1, 0), (3, 0), (4, 2), (i64::MAX, 2)],
     );
     check_field('C', CALIBRATION, 2, &[(-1, 2), (0, 0), (1, 0), (2, 2)]);
+}
+
+#[test]
+fn calibration_positions_and_limits() {
     for (setpoint, raw, refusal) in [
         (10_000_000, 9_999_900, 0),
         (10_000_001, 9_999_900, 3),

@@ -50,6 +50,10 @@ fn ranges_of_a_tool_groove() {
         at::R2,
         &[(10_000_000, 7), (10_000_001, 3), (i64::MAX, 3)],
     );
+}
+
+#[test]
+fn weighting_factor_with_and_without_a_mean() {
     for mv in [0, 2] {
         let fields = with(GROOVE, &[(at::MV, mv)]);
         check_field(
@@ -94,6 +98,10 @@ fn limits_of_a_tool_measurement() {
         at::TLL,
         &[(151, 4), (150, 0), (-1_000_000, 0), (-1_000_001, 4)],
     );
+}
+
+#[test]
+fn greatest_tmv_and_wild_limits() {
     let wide = with(GROOVE, &[(at::TDIF, 1_000_000), (at::TSA, 1_000_000)]);
     for mv in [0, 2] {
         let fields = with(wide, &[(at::MV, mv)]);

@@ -23,6 +23,10 @@ fn zero_groove() {
         &[(0, 2), (1, 0), (4, 0), (5, 2)],
     );
     check_unused('Z', ZERO_GROOVE, &[at::DIRECTION, at::C2, at::R3, at::R4]);
+}
+
+#[test]
+fn zero_groove_ranges() {
     // the width setpoint is checked though only reported
     let rows = [
         (0, 3),

@@ -6,7 +6,7 @@ use std::collections::{BTreeMap, BTreeSet};
 
 use reference::generate::{every_letter, job, CallSource};
 use reference::job::fresh_job;
-use reference::{Answer, Call, Package, Refusal};
+use reference::{Answer, Call, Fault, Package, Refusal};
 
 /// Name of the call's sort.
 fn sort(call: &Call) -> &'static str {
@@ -49,13 +49,8 @@ fn tally(calls: usize) -> BTreeMap<Key, usize> {
 }
 
 #[test]
-fn calls_reach_every_refusal_branch_and_verdict() {
-    let calls = 40_000;
-    let found = tally(calls);
-    let count = |matches: &dyn Fn(&Key) -> bool| -> usize {
-        let found = found.iter().filter(|(key, _)| matches(key));
-        found.map(|(_, count)| count).sum()
-    };
+fn each_sort_of_call_reaches_its_refusals_and_no_other() {
+    let found = tally(40_000);
     let wanted: [(&str, &[u8]); 10] = [
         ("E", &[0, 2, 3]),
         ("W", &[0, 2, 3]),
@@ -80,6 +75,16 @@ fn calls_reach_every_refusal_branch_and_verdict() {
             "{sort}"
         );
     }
+}
+
+#[test]
+fn calls_reach_every_refusal_branch_and_verdict_often() {
+    let calls = 40_000;
+    let found = tally(calls);
+    let count = |matches: &dyn Fn(&Key) -> bool| -> usize {
+        let found = found.iter().filter(|(key, _)| matches(key));
+        found.map(|(_, count)| count).sum()
+    };
     for refusal in 1..=9 {
         let often = count(&|key| key.1 == refusal);
         assert!(often >= calls / 400, "refusal {refusal}: {often}");
@@ -186,5 +191,20 @@ fn stored_job_has_every_letter_and_refusal() {
     for letter in [b'E', b'W', b'O', b'C', b'T', b'Z'] {
         let mut lines = text.split(|&byte| byte == b'\n').zip(&keys);
         assert!(lines.any(|(line, key)| line.first() == Some(&letter) && key.0 == 0));
+    }
+}
+
+/// Jobs alone show every fault but that of the memory block, which no line loads.
+#[test]
+fn jobs_show_the_planted_faults() {
+    for fault in Fault::ALL {
+        let differs = |seed: &u64| {
+            let text = job(*seed);
+            let mut output = vec![0; 40_000];
+            let result = Package::with_fault(fault).run_job(&text, &mut output);
+            result.map(|length| output[..length].to_vec()) != fresh_job(&text)
+        };
+        let seen = (0..400).filter(differs).count();
+        assert_eq!(seen > 0, fault != Fault::UnsignedBytes, "{fault:?}: {seen}");
     }
 }

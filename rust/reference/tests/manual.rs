@@ -56,10 +56,10 @@ fn example_with_k_2() {
 }
 
 /// The manual's hole of 132 mm with T20, EV 10 and mean 10, k 3, TZL 0.01, TMV
-/// 0.02, TUL/TLL ±0.03, TDIF 0.06, TSA 1 mm.
-#[test]
-fn hole_of_132_mm() {
+/// 0.02, TUL/TLL ±0.03, TDIF 0.06, TSA 1 mm; the ordinate is 132 mm + `over`.
+fn hole_of_132_mm(over: i64) -> [i64; 21] {
     let sizes = [(at::KIND, 1), (at::SETPOINT, 1_320_000), (at::TOOL, 20)];
+    let raws = [(at::R2, 1_320_000), (at::R4, 1_320_000 + over)];
     let numbers = [(at::EV, 10), (at::MV, 10), (at::K, 3), (at::TZL, 100)];
     let limits = [
         (at::TMV, 200),
@@ -68,7 +68,12 @@ fn hole_of_132_mm() {
         (at::TDIF, 600),
         (at::TSA, 10_000),
     ];
-    let fields = with(with(with(GROOVE, &sizes), &numbers), &limits);
+    let fields = with(with(GROOVE, &sizes), &raws);
+    with(with(fields, &numbers), &limits)
+}
+
+#[test]
+fn answers_for_the_hole_of_132_mm() {
     // D -> refusal, branch, verdict, c, mean left
     let rows = [
         (10_001, (7, 0, 0, 0, 40)),
@@ -84,20 +89,14 @@ fn hole_of_132_mm() {
     ];
     for (deviation, expected) in rows {
         let mut package = with_empirical_and_mean(25, 40);
-        let r4 = 1_320_000 + 25 + deviation;
-        let answer = call(
-            &mut package,
-            'T',
-            &with(fields, &[(at::R2, 1_320_000), (at::R4, r4)]),
-        );
+        let answer = call(&mut package, 'T', &hole_of_132_mm(25 + deviation));
         let (c, mean) = (answer.array[20], package.records().mv[9]);
         let got = (answer.refusal, answer.branch, answer.verdict, c, mean);
         assert_eq!(got, expected, "D {deviation}");
         assert_eq!(package.records().wears[19].radius, expected.3);
     }
     let mut package = with_empirical_and_mean(25, 51);
-    let changes = [(at::R2, 1_320_000), (at::R4, 1_320_225)];
-    let answer = call(&mut package, 'T', &with(fields, &changes));
+    let answer = call(&mut package, 'T', &hole_of_132_mm(225));
     assert_eq!((answer.branch, answer.array[20]), (4, 101));
     assert_eq!(package.records().mv[9], 0);
 }

@@ -13,7 +13,7 @@ fn package() -> Package {
         ..Records::fresh()
     };
     records.ev[8] = -12;
-    records.mv[1] = 10;
+    records.mv[1] = 8;
     Package::from_records(records)
 }
 
@@ -26,9 +26,8 @@ fn expected(places: &[(usize, i32)]) -> Vec<i32> {
     array
 }
 
-#[test]
-fn tool_hole() {
-    // axis 1: low -100000 - 500, high 101000 + 600; axis 2: -99000 - 700, 99550 + 800
+/// Axis 1: low -100000 - 500, high 101000 + 600; axis 2: -99000 - 700, 99550 + 800.
+fn hole() -> [i64; 21] {
     let raws = [
         (at::R1, -100_000),
         (at::R2, 101_000),
@@ -43,10 +42,14 @@ fn tool_hole() {
         (at::EV, 9),
         (at::TLL, -140),
     ];
-    let fields = with(with(GROOVE, &raws), &others);
+    with(with(GROOVE, &raws), &others)
+}
+
+#[test]
+fn tool_hole() {
     let mut package = package();
-    let answer = call(&mut package, 'T', &fields);
-    // width 200050, EV -12: D = 62; new mean 10 + 52/5 = 20
+    let answer = call(&mut package, 'T', &hole());
+    // width 200050, EV -12: D = 62; new mean 8 + 54/5 = 19
     let places = [
         (0, 200_000),
         (1, 333),
@@ -63,7 +66,7 @@ fn tool_hole() {
         (28, 1000),
         (29, 300),
         (30, -12),
-        (31, 20),
+        (31, 19),
         (32, 4),
         (34, 977),
         (35, 1),
@@ -75,24 +78,25 @@ fn tool_hole() {
     ];
     assert_eq!(answer.array, expected(&places));
     assert_eq!((answer.refusal, answer.branch, answer.verdict), (0, 3, 0));
-    assert_eq!(package.records().mv[1], 20);
+    assert_eq!(package.records().mv[1], 19);
+}
+
+/// Surface 100 - 900 on axis 3, negative: D = -800 + 12 + 700 = -88.
+fn plane() -> [i64; 21] {
+    let changes = [
+        (at::KIND, 0),
+        (at::AXIS, 3),
+        (at::DIRECTION, 1),
+        (at::SETPOINT, -700),
+        (at::C1, 5),
+        (at::R1, 100),
+        (at::EV, 9),
+    ];
+    with(GROOVE, &changes)
 }
 
 #[test]
 fn tool_plane_with_and_without_mean() {
-    // surface 100 - 900 on axis 3, negative: D = -800 + 12 + 700 = -88
-    let plane = with(
-        GROOVE,
-        &[
-            (at::KIND, 0),
-            (at::AXIS, 3),
-            (at::DIRECTION, 1),
-            (at::SETPOINT, -700),
-            (at::C1, 5),
-            (at::R1, 100),
-            (at::EV, 9),
-        ],
-    );
     let common = [
         (0, -700),
         (4, -788),
@@ -108,14 +112,14 @@ fn tool_plane_with_and_without_mean() {
         (39, 9),
         (40, 4),
     ];
-    let with_mean = [(27, 20), (31, -10), (36, 5), (38, 2)];
+    let with_mean = [(27, 20), (31, -11), (36, 5), (38, 2)];
     let mut package = package();
-    let answer = call(&mut package, 'T', &plane);
+    let answer = call(&mut package, 'T', &plane());
     assert_eq!(answer.array, expected(&[&common[..], &with_mean].concat()));
     assert_eq!(answer.branch, 3);
 
     let without_mean = [(20, -88), (27, 20), (36, 5)];
-    let answer = call(&mut package, 'T', &with(plane, &[(at::MV, 0)]));
+    let answer = call(&mut package, 'T', &with(plane(), &[(at::MV, 0)]));
     assert_eq!(
         answer.array,
         expected(&[&common[..], &without_mean].concat())
@@ -124,7 +128,7 @@ fn tool_plane_with_and_without_mean() {
     // 2·s·c with s = -1, to length wear
     assert_eq!(package.records().wears[3].length, 176);
     assert_eq!(package.records().wears[3].radius, 0);
-    assert_eq!(package.records().mv[1], -10);
+    assert_eq!(package.records().mv[1], -11);
 }
 
 #[test]
