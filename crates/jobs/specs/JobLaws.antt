@@ -6,14 +6,15 @@ use Prim.Native.Nat.{ℕ, _+_, _-_, _*_, _<_, _≤_}
 use native.Mathlib.Omega.{arith}
 use borrow.Author.Tests.{le-leb, lt-leb, eq-eqb, ne-eqb, eqb-true, leb-true}
 use lib.Dec.{eqb, leb}
-use lib.ListN.{length, getD, drop}
+use lib.ListN.{length, getD, drop, length-append, length-drop}
 use lib.Seq.{drop-drop}
 use Rattle.text.specs.Pieces.{lines, lineFeed}
 use Rattle.text.specs.Written.{written}
 use Rattle.package.specs.declared.Package.{Package}
 use Rattle.job_text.specs.Lines.{saidBy}
 use Rattle.jobs.specs.Answers.{ran, rowText}
-use Rattle.jobs.specs.Jobs.{jobRefusal, linesAfter, linesText}
+use Rattle.jobs.specs.Jobs.{jobRefusal, linesAfter, linesText, jobRan, jobOutput}
+use Rattle.jobs.specs.declared.Ran.{Ran}
 use Rattle.jobs.specs.declared.Step.{Step}
 
 pub job-empty : (s : List ℕ) (room : ℕ) → length s ≡ 0 → jobRefusal s room ≡ 11
@@ -87,3 +88,21 @@ drop-more a b n m e = sym (drop-drop m n a) ∙ ap (drop m) e ∙ drop-drop m n 
 pub from-start : (old out t : List ℕ) → out ≡ t ++ drop (length t) old → out ≡ written old 0 t
 unfolding written
 from-start old out t e = let z : 0 + length t ≡ length t = omega arith in rw z e
+
+-- ---- the output is not longer than its buffer
+written-fits : (old t : List ℕ) → length (written old 0 t) ≡ length old → length t ≤ length old
+unfolding written
+written-fits old t e =
+    let z : 0 + length t ≡ length t = omega arith in
+    let f = sym (length-append t (drop (0 + length t) old)) ∙ e in
+    omega (arith, f, length-drop (0 + length t) old)
+
+pub output-fits : (p : Package) (job output : List ℕ) {r : Ran} {out : List ℕ} → r ≡ jobRan p job (length output) → out ≡ jobOutput p job output
+    → length out ≡ length output → r .length ≤ length out
+unfolding jobRan jobOutput
+output-fits p job output e o k = rw (e, k) (go (eqb (jobRefusal job (length output)) 0) (sym (ap length o) ∙ k))
+  where
+    go : (t : Bool) → length (cond t (written output 0 (linesText p 0 (lines job))) output) ≡ length output
+        → cond {A = Ran} t (record { after = linesAfter p (lines job); refusal = 0; length = length (linesText p 0 (lines job)) }) (record { after = p; refusal = jobRefusal job (length output); length = 0 }) .length ≤ length output
+    go true e = written-fits output (linesText p 0 (lines job)) e
+    go false e = omega arith
