@@ -1,18 +1,17 @@
 // A job runs line by line. Document 01, 'Job files'.
-use job_text::FIELDS;
+use job_text::arguments::calibration_of;
+use job_text::arguments::tool_of;
+use job_text::arguments::zero_of;
 use job_text::read_line;
 use measuring::measure_tool;
 use measuring::measure_zero;
 use package::Answer;
-use package::Calibration;
 use package::DONE;
 use package::EMPTY_JOB;
-use package::Limits;
 use package::MALFORMED_LINE;
 use package::Measured;
 use package::NO_ROOM;
 use package::Package;
-use package::Probing;
 use package::ToolMeasurement;
 use package::WRONG_JOB;
 use package::ZeroMeasurement;
@@ -31,7 +30,7 @@ ghost use mathlib.Core.Path.{_≡_};
 ghost use Prim.Native.Nat.{_+_, _≤_};
 ghost use lib.ListN.{length};
 ghost use Rattle.text.specs.Written.{written};
-ghost use Rattle.job_text.specs.Letters.{calibrationOf, probingOf, toolOf, zeroOf, lent};
+ghost use Rattle.job_text.specs.Letters.{lent};
 ghost use Rattle.job_text.specs.Lines.{says, saidBy};
 ghost use Rattle.rules.specs.Calls.{measureTool, measureZero};
 ghost use Rattle.jobs.specs.Answers.{noMeasurement, answer, ran, wholeField, signedField, rowText};
@@ -71,77 +70,6 @@ pub struct Ran {
     pub after: Package,
     pub refusal: u32,
     pub length: usize,
-}
-
-fn calibration_of(v: [i64; FIELDS]) -> Calibration
-    ensures { λ r. ⌜ r ≡ calibrationOf v ⌝ }
-{
-    Calibration {
-        probe: v[0],
-        axis: v[1],
-        direction: v[2],
-        setpoint: v[3],
-        raw: v[4],
-        tzl: v[5],
-        tsa: v[6],
-    }
-}
-
-fn probing_of(v: [i64; FIELDS]) -> Probing
-    ensures { λ r. ⌜ r ≡ probingOf v ⌝ }
-{
-    Probing {
-        kind: v[0],
-        probe: v[1],
-        axis: v[2],
-        direction: v[3],
-        setpoint: v[4],
-        c1: v[5],
-        c2: v[6],
-        r1: v[7],
-        r2: v[8],
-        r3: v[9],
-        r4: v[10],
-    }
-}
-
-fn limits_of(v: [i64; FIELDS]) -> Limits
-    ensures { λ r. ⌜ r ≡ toolOf v .limits ⌝ }
-{
-    Limits {
-        tzl: v[15],
-        tmv: v[16],
-        tul: v[17],
-        tll: v[18],
-        tdif: v[19],
-        tsa: v[20],
-    }
-}
-
-fn tool_of(v: [i64; FIELDS]) -> ToolMeasurement
-    ensures { λ r. ⌜ r ≡ toolOf v ⌝ }
-{
-    let part = probing_of(v);
-    let limits = limits_of(v);
-    ToolMeasurement {
-        part,
-        tool: v[11],
-        ev: v[12],
-        mv: v[13],
-        k: v[14],
-        limits,
-    }
-}
-
-fn zero_of(v: [i64; FIELDS]) -> ZeroMeasurement
-    ensures { λ r. ⌜ r ≡ zeroOf v ⌝ }
-{
-    let part = probing_of(v);
-    ZeroMeasurement {
-        part,
-        offset: v[11],
-        tsa: v[12],
-    }
 }
 
 // The answer of a line that does not measure.
@@ -212,9 +140,9 @@ fn run_line(p: Package, number: u32, line: &[u8]) -> Step
         b'E' => set_line(number, set_empirical(p, v[0], v[1])),
         b'W' => set_line(number, set_wear(p, v[0], v[1], v[2])),
         b'O' => set_line(number, set_offset(p, v[0], v[1], v[2], v[3])),
-        b'C' => set_line(number, calibrate(p, calibration_of(v))),
-        b'T' => tool_line(p, number, tool_of(v)),
-        b'Z' => zero_line(p, number, zero_of(v)),
+        b'C' => set_line(number, calibrate(p, calibration_of(&v))),
+        b'T' => tool_line(p, number, tool_of(&v)),
+        b'Z' => zero_line(p, number, zero_of(&v)),
         _ => {
             let row = unmeasured(number, MALFORMED_LINE);
             Step { after: p, row }
