@@ -1,2 +1,5 @@
 pub mod Area
 pub mod AreaLaws
+pub mod Arguments
+pub mod Exports
+pub mod ExportLaws
