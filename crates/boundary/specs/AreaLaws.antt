@@ -1,20 +1,26 @@
--- Laws of the area: a number that is read as the nearest of a range, and stores that loops read and write record by record.
-use mathlib.Core.Path.{_≡_, refl, sym, ap, _∙_}
+-- Laws of the area: a number that is read as the nearest of a range, and records that are packed and unpacked.
+use mathlib.Core.Path.{_≡_, refl, ap, _∙_}
 use mathlib.Core.Bool.{Bool, true, false, not, cond, _&&_}
-use mathlib.Core.List.{List, [], _∷_, _++_, append-assoc, append-nil, flatMap}
-use Prim.Native.Nat.{ℕ, zero, suc, _+_, _-_, _*_, _≤_, _<_}
-use native.Mathlib.Nat.{not-suc-le-zero, le-of-suc-le-suc}
-use native.Mathlib.Numerals.{add-one}
+use mathlib.Core.List.{List, [], _∷_, _++_, append-assoc, map, flatMap}
+use Prim.Native.Nat.{ℕ, suc, _+_, _*_, _<_}
 use native.Mathlib.Omega.{arith}
-use lib.IntN.{ℤ, pos}
-use lib.ListN.{length, getD, set, take, drop, length-append, length-take, length-drop, drop-of-length-le}
-use lib.Seq.{drop-cons, drop-drop, take-suc, take-all, take-at, drop-at}
+use lib.IntN.{ℤ, pos, natAbs}
+use lib.ListN.{length, length-append}
+use lib.Seq.{take-at, drop-at, getD-at, take-all, drop-drop}
 use lib.Signed.{ltZ}
-use borrow.Rule.Slice.PartMut.{putMid}
-use Rattle.signed.specs.Ranges.{within, nearestIn}
+use borrow.Author.Tests.{le-leb}
+use Rattle.signed.specs.Ranges.{minus, within, nearestIn}
 use Rattle.signed.specs.RangeLaws.{true-T, leZ-not}
-use Rattle.lists.specs.Copied.{copied, copied-suc}
-use Rattle.boundary.specs.Area.{store}
+use Rattle.lists.specs.Each.{Each}
+use Rattle.package.specs.declared.Package.{Package}
+use Rattle.package.specs.declared.Probe.{Probe}
+use Rattle.package.specs.declared.Wear.{Wear}
+use Rattle.package.specs.declared.Offset.{Offset}
+use Rattle.rules.specs.Stores.{valueRange}
+use Rattle.rules.specs.StoreLaws.{Store}
+use Rattle.rules.specs.BlockLaws.{Values}
+use Rattle.rules.specs.InRange.{InRange}
+use Rattle.boundary.specs.Area.{probeNumbers, wearNumbers, offsetNumbers, packed, valueFrom, statusFrom, probeFrom, wearFrom, offsetFrom, store, section, unpacked}
 
 -- ---- the nearest number of a range is of the range, and it is the number itself where that is of the range
 module _ (lo hi z : ℤ) where
@@ -36,108 +42,171 @@ module _ (lo hi z : ℤ) where
       go false true e = absurd (true-T e)
       go false false e = refl
 
--- ---- n elements of a list from i on, as the code names them
-abbrev pub named : List ℤ → ℕ → ℕ → List ℤ
-named zs i zero = []
-named zs i (suc n) = getD zs i (pos 0) ∷ named zs (suc i) n
+-- ---- records of their types: stores of their lengths, values of 16 bits, statuses of 8 bits. Nothing is asked of triggers, wears and offsets, which
+-- the area holds as they are.
+pub record ProbeTyped (x : Probe) : Type 0 where
+  pub triggers : length (x .triggers) ≡ 6
+  pub status : x .status < 256
 
-pub named-is : (zs : List ℤ) (i n : ℕ) → i + n ≤ length zs → named zs i n ≡ take n (drop i zs)
-named-is zs i zero h = refl
-named-is zs i (suc n) h = rw (named-is zs (suc i) n (omega arith), drop-cons zs i (pos 0) (omega arith))
+pub record OffsetTyped (x : Offset) : Type 0 where
+  pub axes : length (x .axes) ≡ 3
 
--- a part of k numbers from a place on, as the borrow checker has it
-pub part-long : (zs : List ℤ) (at k : ℕ) → at + k ≤ length zs → length (take (at + k - at) (drop at zs)) ≡ k
-part-long zs at k h = simp (length-take, length-drop) (omega arith)
+pub record Typed (p : Package) : Type 0 where
+  pub probes : Store 3 ProbeTyped (p .probes)
+  pub empirical : Values (p .memory .empirical)
+  pub means : Values (p .memory .means)
+  pub tools : length (p .tools) ≡ 32
+  pub offsets : Store 4 OffsetTyped (p .offsets)
 
--- ---- a store that is read record by record
-module _ {A : Type 0} (from : List ℤ → A) (size : ℕ) where
-  pub store-length : (count : ℕ) (zs : List ℤ) → length (store from size count zs) ≡ count
-  unfolding store
-  store-length zero zs = refl
-  store-length (suc count) zs = ap suc (store-length count (drop size zs))
+-- ---- a store that is packed and unpacked
+module _ {A : Type 0} (from : List ℤ → A) (numbers : A → List ℤ) (size : ℕ) where
+  -- a record that has size numbers, of which it is read again
+  pub record Back (x : A) : Type 0 where
+    pub long : length (numbers x) ≡ size
+    pub same : from (numbers x) ≡ x
 
-  store-at : (count : ℕ) (zs : List ℤ) (i : ℕ) (d : A) → i < count → getD (store from size count zs) i d ≡ from (take size (drop (size * i) zs))
-  unfolding store
-  store-at zero zs i d h = absurd (not-suc-le-zero h)
-  store-at (suc count) zs zero d h = let e : size * 0 ≡ 0 = omega arith in rw e
-  store-at (suc count) zs (suc i) d h =
-      let e : size * suc i ≡ size + size * i = omega arith in
-      rw (e, ← drop-drop (size * i) size zs) (store-at count (drop size zs) i d (le-of-suc-le-suc h))
-
-  -- a turn of the loop
-  pub read-suc : (count : ℕ) (zs : List ℤ) (old : List A) → length old ≡ count
-      → (i : ℕ) (r : A) → i < count → r ≡ from (take (size * i + size - size * i) (drop (size * i) zs))
-      → set (copied old (store from size count zs) i) i r ≡ copied old (store from size count zs) (i + 1)
-  read-suc count zs old long i r h e =
-      let n = store-length count zs in
-      let k : size * i + size - size * i ≡ size = omega arith in
-      rw (e, k, ← store-at count zs i r h) (copied-suc old (store from size count zs) i r (omega arith) (omega arith))
-
--- ---- a store that is written record by record
-module _ {A : Type 0} (numbers : A → List ℤ) where
-  one-more : (xs : List A) (x : A) → flatMap numbers (xs ++ (x ∷ [])) ≡ flatMap numbers xs ++ numbers x
+  flat-length : (xs : List A) → Each Back xs → length (flatMap numbers xs) ≡ size * length xs
   unfolding flatMap
-  one-more [] x = append-nil (numbers x)
-  one-more (y ∷ ys) x = rw (one-more ys x) (sym (append-assoc (numbers y) (flatMap numbers ys) (numbers x)))
+  flat-length [] h = let e : size * 0 ≡ 0 = omega arith in rw e
+  flat-length (x ∷ xs) h =
+      let e : size * suc (length xs) ≡ size + size * length xs = omega arith in
+      rw e (length-append (numbers x) (flatMap numbers xs) ∙ rw (h .0 .long, flat-length xs (h .1)))
 
-  -- what a loop that writes to old holds after i turns, where each of those records has size numbers
-  pub record Wrote (size : ℕ) (xs : List A) (old : List ℤ) (i : ℕ) (part : List ℤ) : Type 0 where
-    pub long : length (flatMap numbers (take i xs)) ≡ size * i
-    pub whole : part ≡ flatMap numbers (take i xs) ++ drop (size * i) old
+  store-back : (xs : List A) → Each Back xs → store from size (length xs) (flatMap numbers xs) ≡ xs
+  unfolding store flatMap
+  store-back [] h = refl
+  store-back (x ∷ xs) h =
+      rw (
+        take-at (numbers x) (flatMap numbers xs) size (h .0 .long),
+        drop-at (numbers x) (flatMap numbers xs) size (h .0 .long),
+        h .0 .same,
+        store-back xs (h .1),
+      )
 
-  module _ (size : ℕ) (xs : List A) (old : List ℤ) where
-    pub wrote-none : Wrote size xs old 0 old
-    unfolding flatMap
-    wrote-none = let e : size * 0 ≡ 0 = omega arith in record { long = sym e; whole = rw e }
+  store-is : (xs : List A) (n : ℕ) → length xs ≡ n → Each Back xs → store from size n (flatMap numbers xs) ≡ xs
+  store-is xs n e h = rw (← e) (store-back xs h)
 
-    pub wrote-length : (i : ℕ) {part : List ℤ} → Wrote size xs old i part → size * i ≤ length old → length part ≡ length old
-    wrote-length i w h =
-        let n = w .long in
-        ap length (w .whole) ∙ simp (length-append, length-drop) (omega arith)
+  flat-long : (xs : List A) (n : ℕ) → length xs ≡ n → Each Back xs → length (flatMap numbers xs) ≡ size * n
+  flat-long xs n e h = flat-length xs h ∙ rw e
 
-    -- a turn of the loop
-    pub wrote-suc : (i : ℕ) (d : A) {part ys : List ℤ} → Wrote size xs old i part → i < length xs → ys ≡ numbers (getD xs i d) → length ys ≡ size
-        → Wrote size xs old (i + 1) (putMid (size * i) (size * i + size - size * i) part ys)
-    wrote-suc i d {part} {ys} w h e n =
-        let front = flatMap numbers (take i xs) in
-        let k : size * i + size - size * i ≡ size = omega arith in
-        let next : size * (i + 1) ≡ size * i + size = omega arith in
-        let more : flatMap numbers (take (i + 1) xs) ≡ front ++ ys = rw (add-one i, take-suc xs i d h, one-more (take i xs) (getD xs i d), e) in
-        record {
-          long = rw (more, next) (length-append front ys ∙ omega (arith, w .long, n));
-          whole =
-              rw (
-                more,
-                next,
-                k,
-                w .whole,
-                take-at front (drop (size * i) old) (size * i) (w .long),
-                drop-at front (drop (size * i) old) (size * i) (w .long),
-                drop-drop size (size * i) old,
-              )
-              (sym (append-assoc front ys (drop (size * i + size) old)));
-        }
+each-so : {A : Type 0} {P Q : A → Type 0} → ((x : A) → P x → Q x) → (xs : List A) → Each P xs → Each Q xs
+each-so f [] h = tt
+each-so f (x ∷ xs) h = (f x (h .0), each-so f xs (h .1))
 
-    pub wrote-all : (i : ℕ) {part : List ℤ} → Wrote size xs old i part → length xs ≡ i → length old ≡ size * i → part ≡ flatMap numbers xs
-    wrote-all i w e n =
-        w .whole ∙ rw (take-all i xs (omega arith), drop-of-length-le old {i = size * i} (omega arith)) (append-nil (flatMap numbers xs))
+each-all : {A : Type 0} {P : A → Type 0} → ((x : A) → P x) → (xs : List A) → Each P xs
+each-all f [] = tt
+each-all f (x ∷ xs) = (f x, each-all f xs)
 
--- ---- the sections of the area, written one after the other
-put-after : (front rest ys : List ℤ) (a k : ℕ) → length front ≡ a → putMid a k (front ++ rest) ys ≡ (front ++ ys) ++ drop k rest
-put-after front rest ys a k h = rw (take-at front rest a h, drop-at front rest a h) (sym (append-assoc front ys (drop k rest)))
+byte-range : (n : ℕ) → n < 256 → within (pos 0) (pos 255) (pos n) ≡ true
+byte-range n h = rw (le-leb 0 n (omega arith), le-leb n 255 (omega arith))
 
-pub sections : (probes empirical means tools offsets old : List ℤ)
-    → length probes ≡ 21 → length empirical ≡ 20 → length means ≡ 20 → length tools ≡ 64 → length old ≡ 137
-    → putMid 125 12 (putMid 61 64 (putMid 41 20 (putMid 21 20 (probes ++ drop 21 old) empirical) means) tools) offsets ≡ probes ++ empirical ++ means ++ tools ++ offsets
-sections probes empirical means tools offsets old p e m t n =
-    let a = length-append probes empirical in
-    let b = length-append (probes ++ empirical) means in
-    let c = length-append ((probes ++ empirical) ++ means) tools in
-    rw (
-      put-after probes (drop 21 old) empirical 21 20 p,
-      put-after (probes ++ empirical) (drop 20 (drop 21 old)) means 41 20 (omega arith),
-      put-after ((probes ++ empirical) ++ means) (drop 20 (drop 20 (drop 21 old))) tools 61 64 (omega arith),
-      put-after (((probes ++ empirical) ++ means) ++ tools) (drop 64 (drop 20 (drop 20 (drop 21 old)))) offsets 125 12 (omega arith),
-      drop-of-length-le (drop 64 (drop 20 (drop 20 (drop 21 old)))) {i = 12} (simp length-drop (omega arith)),
-    )
-    (simp (append-assoc, append-nil))
+status-back : (n : ℕ) → n < 256 → statusFrom (pos n) ≡ n
+status-back n h = ap natAbs (nearest-itself (pos 0) (pos 255) (pos n) (byte-range n h))
+
+probe-back : (x : Probe) → ProbeTyped x → Back probeFrom probeNumbers 7 x
+probe-back x t =
+    let n = t .triggers in
+    record {
+      long = length-append (x .triggers) (pos (x .status) ∷ []) ∙ omega arith;
+      same = rw (take-at (x .triggers) (pos (x .status) ∷ []) 6 n, getD-at (x .triggers) (pos (x .status)) [] (pos 0) 6 n, status-back (x .status) (t .status));
+    }
+
+wear-back : (x : Wear) → Back wearFrom wearNumbers 2 x
+wear-back x = record { long = refl; same = refl }
+
+offset-back : (x : Offset) → OffsetTyped x → Back offsetFrom offsetNumbers 3 x
+offset-back x t = record { long = t .axes; same = refl }
+
+values-back : (zs : List ℤ) → Each (λ z. valueRange z ≡ true) zs → map valueFrom zs ≡ zs
+values-back [] h = refl
+values-back (z ∷ zs) h = rw (nearest-itself (minus 32768) (pos 32767) z (h .0), values-back zs (h .1))
+
+-- ---- a section after the numbers in front of it
+section-front : (zs rest : List ℤ) (n : ℕ) → length zs ≡ n → section 0 n (zs ++ rest) ≡ zs
+section-front zs rest n h = take-at zs rest n h
+
+section-past : (front rest : List ℤ) (a b n : ℕ) → length front ≡ a → section (a + b) n (front ++ rest) ≡ section b n rest
+section-past front rest a b n h = rw (← drop-drop b a (front ++ rest), drop-at front rest a h)
+
+together : (p : Package) {probes : List Probe} {empirical means : List ℤ} {tools : List Wear} {offsets : List Offset}
+    → probes ≡ p .probes → empirical ≡ p .memory .empirical → means ≡ p .memory .means → tools ≡ p .tools → offsets ≡ p .offsets
+    → record { probes = probes; memory = record { empirical = empirical; means = means }; tools = tools; offsets = offsets } ≡ p
+together p a b c d e = rw (a, b, c, d, e)
+
+module _ (p : Package) (t : Typed p) where
+  abbrev probes : List ℤ
+  probes = flatMap probeNumbers (p .probes)
+
+  abbrev tools : List ℤ
+  tools = flatMap wearNumbers (p .tools)
+
+  abbrev offsets : List ℤ
+  offsets = flatMap offsetNumbers (p .offsets)
+
+  abbrev empirical : List ℤ
+  empirical = p .memory .empirical
+
+  abbrev means : List ℤ
+  means = p .memory .means
+
+  probes-back : Each (Back probeFrom probeNumbers 7) (p .probes)
+  probes-back = each-so probe-back (p .probes) (t .probes .entries)
+
+  tools-back : Each (Back wearFrom wearNumbers 2) (p .tools)
+  tools-back = each-all wear-back (p .tools)
+
+  offsets-back : Each (Back offsetFrom offsetNumbers 3) (p .offsets)
+  offsets-back = each-so offset-back (p .offsets) (t .offsets .entries)
+
+  probes-long : length probes ≡ 21
+  probes-long = flat-long probeFrom probeNumbers 7 (p .probes) 3 (t .probes .long) probes-back
+
+  tools-long : length tools ≡ 64
+  tools-long = flat-long wearFrom wearNumbers 2 (p .tools) 32 (t .tools) tools-back
+
+  offsets-long : length offsets ≡ 12
+  offsets-long = flat-long offsetFrom offsetNumbers 3 (p .offsets) 4 (t .offsets .long) offsets-back
+
+  pub packed-long : length (packed p) ≡ 137
+  unfolding packed
+  packed-long =
+      simp length-append (omega (arith, probes-long, t .empirical .long, t .means .long, tools-long, offsets-long))
+
+  nested : packed p ≡ probes ++ (empirical ++ (means ++ (tools ++ offsets)))
+  unfolding packed
+  nested = simp append-assoc
+
+  sections-back : unpacked (probes ++ (empirical ++ (means ++ (tools ++ offsets)))) ≡ p
+  unfolding unpacked
+  sections-back =
+      let four = tools ++ offsets in
+      let three = means ++ four in
+      let two = empirical ++ three in
+      let e = t .empirical .long in
+      let m = t .means .long in
+      together p
+      (ap (store probeFrom 7 3) (section-front probes two 21 probes-long) ∙
+      store-is probeFrom probeNumbers 7 (p .probes) 3 (t .probes .long) probes-back)
+      (ap (map valueFrom) (section-past probes two 21 0 20 probes-long ∙ section-front empirical three 20 e) ∙
+      values-back empirical (t .empirical .entries))
+      (ap (map valueFrom) (section-past probes two 21 20 20 probes-long ∙ section-past empirical three 20 0 20 e ∙ section-front means four 20 m) ∙
+      values-back means (t .means .entries))
+      (ap (store wearFrom 2 32) (section-past probes two 21 40 64 probes-long ∙ section-past empirical three 20 20 64 e ∙ section-past means four 20 0 64 m ∙ section-front tools offsets 64 tools-long) ∙
+      store-is wearFrom wearNumbers 2 (p .tools) 32 (t .tools) tools-back)
+      (ap (store offsetFrom 3 4) (section-past probes two 21 104 12 probes-long ∙ section-past empirical three 20 84 12 e ∙ section-past means four 20 64 12 m ∙ section-past tools offsets 64 0 12 tools-long ∙ take-all 12 offsets (omega (arith, offsets-long))) ∙
+      store-is offsetFrom offsetNumbers 3 (p .offsets) 4 (t .offsets .long) offsets-back)
+
+  -- packing and then unpacking gives the records back
+  pub unpack-pack : unpacked (packed p) ≡ p
+  unpack-pack = ap unpacked nested ∙ sections-back
+
+-- records in range are of their types
+pub in-range-typed : (p : Package) → InRange p → Typed p
+in-range-typed p r =
+    record {
+      probes = record { long = r .probes .long; entries = each-so (λ x h. record { triggers = h .triggers .long; status = omega (arith, h .status) }) (p .probes) (r .probes .entries) };
+      empirical = r .empirical;
+      means = r .means;
+      tools = r .tools .long;
+      offsets = record { long = r .offsets .long; entries = each-so (λ x h. record { axes = h .axes .long }) (p .offsets) (r .offsets .entries) };
+    }

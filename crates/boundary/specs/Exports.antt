@@ -13,7 +13,7 @@ use Rattle.package.specs.declared.Measured.{Measured}
 use Rattle.package.specs.declared.Status.{Status}
 use Rattle.rules.specs.Block.{saved}
 use Rattle.rules.specs.Status.{statusRead}
-use Rattle.rules.specs.Calls.{Call, refusal, step}
+use Rattle.rules.specs.Calls.{Call, save, refusal, step}
 use Rattle.rules.specs.Measuring.{toolMeasured, toolArray, zeroMeasured, zeroArray}
 use Rattle.boundary.specs.declared.Decision.{Decision}
 use Rattle.boundary.specs.declared.StatusBits.{StatusBits}
@@ -27,19 +27,21 @@ wholeArea area = eqb (length area) areaLength
 abbrev pub stored : ℕ → Package → List ℤ → List ℤ
 stored n after area = cond (eqb n 0) (packed after) area
 
--- ---- settings, calibration, load: the refusal and the area after the call
-unfoldable pub areaRefusal : List ℤ → Call → ℕ
-areaRefusal area c = cond (wholeArea area) (refusal (unpacked area) c) 100
+-- ---- settings, calibration, load, fresh: the refusal and the area after the call
+pub record Left : Type 0 where
+  pub refusal : ℕ
+  pub area : List ℤ
 
-unfoldable pub areaAfter : List ℤ → Call → List ℤ
-areaAfter area c = cond (wholeArea area) (stored (refusal (unpacked area) c) (step (unpacked area) c) area) area
+abbrev pub left : ℕ → List ℤ → Left
+left refusal area = record { refusal = refusal; area = area }
 
--- ---- the fresh package
-unfoldable pub freshRefusal : List ℤ → ℕ
-freshRefusal area = cond (wholeArea area) 0 100
+unfoldable pub called : List ℤ → Call → Left
+called area c =
+    let p = unpacked area in
+    cond (wholeArea area) (left (refusal p c) (stored (refusal p c) (step p c) area)) (left 100 area)
 
-unfoldable pub freshArea : List ℤ → List ℤ
-freshArea area = cond (wholeArea area) (packed freshPackage) area
+unfoldable pub freshCalled : List ℤ → Left
+freshCalled area = cond (wholeArea area) (left 0 (packed freshPackage)) (left 100 area)
 
 abbrev pub calibration : (probe axis direction setpoint raw tzl tsa : ℤ) → Calibration
 calibration probe axis direction setpoint raw tzl tsa =
@@ -49,11 +51,20 @@ calibration probe axis direction setpoint raw tzl tsa =
 abbrev pub statusBits : Status → StatusBits
 statusBits s = record { refusal = s .refusal; bits = s .bits; count = s .count }
 
-unfoldable pub areaStatus : List ℤ → ℤ → StatusBits
-areaStatus area probe = cond (wholeArea area) (statusBits (statusRead (unpacked area) probe)) (record { refusal = 100; bits = 0; count = 0 })
+unfoldable pub statusCalled : List ℤ → ℤ → StatusBits
+statusCalled area probe = cond (wholeArea area) (statusBits (statusRead (unpacked area) probe)) (record { refusal = 100; bits = 0; count = 0 })
 
-unfoldable pub areaSaved : List ℤ → List ℕ → List ℕ
-areaSaved area buffer = cond (wholeArea area) (saved (unpacked area) buffer) buffer
+pub record Saved : Type 0 where
+  pub refusal : ℕ
+  pub buffer : List ℕ
+
+abbrev pub savedAs : ℕ → List ℕ → Saved
+savedAs refusal buffer = record { refusal = refusal; buffer = buffer }
+
+unfoldable pub saveCalled : List ℤ → List ℕ → Saved
+saveCalled area buffer =
+    let p = unpacked area in
+    cond (wholeArea area) (savedAs (refusal p (save buffer)) (saved p buffer)) (savedAs 100 buffer)
 
 -- ---- measurements: what one answers, and the area and the result array after it
 pub record Reply : Type 0 where
@@ -77,14 +88,14 @@ replied area numbers count m after results =
     (cond (eqb (length numbers) count) (reply (decided m) (stored (m .refusal) (m .after) area) after) (reply (undecided 101) area results))
     (reply (undecided 100) area results)
 
-unfoldable pub toolReply : (area numbers results : List ℤ) → ℕ → Reply
-toolReply area numbers results place =
+unfoldable pub toolCalled : (area numbers results : List ℤ) → ℕ → Reply
+toolCalled area numbers results place =
     let p = unpacked area in
     let a = toolFrom numbers in
     replied area numbers toolCount (toolMeasured p a results place) (toolArray p a results place) results
 
-unfoldable pub zeroReply : (area numbers results : List ℤ) → ℕ → Reply
-zeroReply area numbers results place =
+unfoldable pub zeroCalled : (area numbers results : List ℤ) → ℕ → Reply
+zeroCalled area numbers results place =
     let p = unpacked area in
     let a = zeroFrom numbers in
     replied area numbers zeroCount (zeroMeasured p a results place) (zeroArray p a results place) results

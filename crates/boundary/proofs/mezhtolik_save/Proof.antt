@@ -1,4 +1,3 @@
-use Rattle.rules.specs.Calls.{save}
 use Rattle.boundary.specs.ExportLaws.{wrong-save, right-save}
 use borrow.Author.Needs.{needs}
 use Rattle.boundary.proofs.mezhtolik_save.Statement.{statement}
@@ -7,7 +6,7 @@ use Rattle.boundary.proofs.mezhtolik_save.Tie as tie
 returns : tie.Need-returns
 returns c =
     let s = c .before .before in
-    wrong-save (s .args .area .now) (c .if1 .taken) (save (s .args .buffer .now)) (s .args .buffer .now)
+    wrong-save (s .args .area .now) (c .if1 .taken) (s .args .buffer .now)
 
 unpack-requires : tie.Need-unpack-requires
 unpack-requires c κs = search needs
@@ -24,7 +23,7 @@ returns-2 c =
     let u = w .before .before in
     let e = u .before in
     let s = e .before .before in
-    right-save (s .args .area .now) (e .if1 .left) (save (s .args .buffer .now)) (s .args .buffer .now) (rw (u .unpack .ensures) at (w .save .ensures))
+    right-save (s .args .area .now) (e .if1 .left) (s .args .buffer .now) (rw (u .unpack .ensures) at (w .save .ensures))
 
 pub mezhtolik-save-spec : {M : Type 1} → statement M
 mezhtolik-save-spec =
