@@ -12,10 +12,10 @@ use Rattle.text.specs.Pieces.{lines, lineFeed}
 use Rattle.text.specs.Written.{written}
 use Rattle.package.specs.declared.Package.{Package}
 use Rattle.job_text.specs.Lines.{saidBy}
-use Rattle.jobs.specs.Answers.{ran, rowText}
+use Rattle.job_lines.specs.Answers.{ran, rowText}
 use Rattle.jobs.specs.Jobs.{jobRefusal, linesAfter, linesText, jobRan, jobOutput}
 use Rattle.jobs.specs.declared.Ran.{Ran}
-use Rattle.jobs.specs.declared.Step.{Step}
+use Rattle.job_lines.specs.declared.Step.{Step}
 
 pub job-empty : (s : List ℕ) (room : ℕ) → length s ≡ 0 → jobRefusal s room ≡ 11
 unfolding jobRefusal

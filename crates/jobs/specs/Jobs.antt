@@ -9,7 +9,7 @@ use Rattle.text.specs.Written.{written}
 use Rattle.package.specs.declared.Package.{Package}
 use Rattle.rules.specs.Refusals.{Rule, _unless_, first}
 use Rattle.job_text.specs.Lines.{saidBy}
-use Rattle.jobs.specs.Answers.{row, after, rowText}
+use Rattle.job_lines.specs.Answers.{row, after, rowText}
 use Rattle.jobs.specs.declared.Ran.{Ran}
 
 -- the last line is ended

@@ -13,11 +13,11 @@ use Rattle.text.specs.PieceLaws.{up-take, lines-first, lines-end, has-line}
 use Rattle.text.specs.Written.{written}
 use Rattle.text.specs.WrittenLaws.{written-length, written-take, written-drop}
 use Rattle.job_text.specs.Lines.{saidBy}
-use Rattle.jobs.specs.Answers.{ran, rowText}
+use Rattle.job_lines.specs.Answers.{ran, rowText}
 use Rattle.jobs.specs.Jobs.{jobRefusal, linesAfter, linesText, jobRan, jobOutput}
 use Rattle.jobs.specs.JobLaws.{Runs, runs-when, text-step, after-step, text-none, after-none, drop-more, from-start}
-use Rattle.jobs.specs.RowLaws.{Small, row-small, at-most-40}
-use Rattle.jobs.specs.declared.Step.{Step}
+use Rattle.job_lines.specs.RowLaws.{Small, row-small, at-most-40}
+use Rattle.job_lines.specs.declared.Step.{Step}
 use Rattle.jobs.proofs.run_job.Statement.{statement}
 use Rattle.jobs.proofs.run_job.Tie as tie
 

@@ -6,10 +6,10 @@ use mir.Syntax.{w32}
 use Rattle.signed.specs.CodeLaws.{read-as}
 use Rattle.text.specs.Pieces.{comma, lineFeed}
 use Rattle.text.specs.WrittenLaws.{Put, written-length, chain, fits-front, fits-next}
-use Rattle.jobs.specs.Answers.{wholeField, signedField}
-use Rattle.jobs.specs.declared.Row.{Row}
-use Rattle.jobs.proofs.put_row.Statement.{statement}
-use Rattle.jobs.proofs.put_row.Tie as tie
+use Rattle.job_lines.specs.Answers.{wholeField, signedField}
+use Rattle.job_lines.specs.declared.Row.{Row}
+use Rattle.job_lines.proofs.put_row.Statement.{statement}
+use Rattle.job_lines.proofs.put_row.Tie as tie
 
 -- the text of the first fields
 abbrev t1 : Row → List ℕ

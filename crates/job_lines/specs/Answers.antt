@@ -10,8 +10,8 @@ use Rattle.package.specs.declared.Package.{Package}
 use Rattle.rules.specs.Calls.{Call, setEmpirical, setWear, setOffset, calibrate, readStatus, measureTool, measureZero, load, save, refusal, step}
 use Rattle.rules.specs.Measuring.{toolMeasured, toolArray, zeroMeasured, zeroArray}
 use Rattle.job_text.specs.Lines.{Said, malformed, says}
-use Rattle.jobs.specs.declared.Row.{Row}
-use Rattle.jobs.specs.declared.Step.{Step}
+use Rattle.job_lines.specs.declared.Row.{Row}
+use Rattle.job_lines.specs.declared.Step.{Step}
 
 -- what a call measured: branch, verdict and the array that it leaves
 pub record Measurement : Type 0 where

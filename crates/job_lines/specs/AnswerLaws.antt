@@ -12,8 +12,8 @@ use Rattle.rules.specs.Calls.{Call, measureTool, measureZero, refusal, step, an
 use Rattle.rules.specs.Measuring.{toolMeasured, toolArray, zeroMeasured, zeroArray}
 use Rattle.job_text.specs.Letters.{lent}
 use Rattle.job_text.specs.Lines.{says}
-use Rattle.jobs.specs.Answers.{Measurement, noMeasurement, measurement, answer, ran}
-use Rattle.jobs.specs.declared.Step.{Step}
+use Rattle.job_lines.specs.Answers.{Measurement, noMeasurement, measurement, answer, ran}
+use Rattle.job_lines.specs.declared.Step.{Step}
 
 -- a call that sets or calibrates
 pub set-ran : (p : Package) (n : ℕ) (c : Call) {a : Answer} → measurement p c ≡ noMeasurement → a ≡ answered p c
