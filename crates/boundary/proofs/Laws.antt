@@ -1,0 +1,39 @@
+-- Numbers of the area as the code holds them.
+use mathlib.Core.Path.{_≡_, _∙_}
+use mathlib.Core.Bool.{true}
+use Prim.Native.Nat.{_<_, _^_}
+use lib.IntN.{ℤ}
+use lib.Signed.{mag}
+use mir.Syntax.{w16, w32, w64}
+use mir.Val.{SFits, toZ, ofZ}
+use mir.Facts.{toZ-ofZ, sfits-widen}
+use Rattle.signed.specs.Ranges.{within, nearestIn}
+use Rattle.boundary.specs.AreaLaws.{nearest-within}
+
+-- a number of the area is read back
+pub kept : (z : ℤ) → mag z < 2 ^ 31 → toZ w32 (ofZ w32 z) ≡ z
+kept z h = toZ-ofZ (record { sfits = h })
+
+-- a number of the area as i64, and the nearest to it of a range
+module _ {v : ℤ} (f : SFits w32 v) where
+  pub wide : SFits w64 (toZ w32 (ofZ w32 v))
+  wide = rw (toZ-ofZ f) (sfits-widen tt f)
+
+  module _ (lo hi : ℤ) (l : within lo hi lo ≡ true) (h : within lo hi hi ≡ true) {r : ℤ}
+      (e : r ≡ nearestIn lo hi (toZ w64 (ofZ w64 (toZ w32 (ofZ w32 v))))) where
+    pub nearest-is : r ≡ nearestIn lo hi v
+    nearest-is = let g : SFits w64 v = sfits-widen tt f in e ∙ rw (toZ-ofZ f, toZ-ofZ g)
+
+    pub nearest-in-range : within lo hi r ≡ true
+    nearest-in-range = rw nearest-is (nearest-within lo hi v l h)
+
+-- a mean or empirical value as a number of the area
+pub record Cast32 (z : ℤ) : Type 0 where
+  pub fits : SFits w32 (toZ w16 (ofZ w16 z))
+  pub value : toZ w32 (ofZ w32 (toZ w16 (ofZ w16 z))) ≡ z
+
+pub cast32 : {z : ℤ} → mag z < 2 ^ 15 → Cast32 z
+cast32 {z} h =
+    let f : SFits w16 z = record { sfits = h } in
+    let g : SFits w32 z = sfits-widen tt f in
+    record { fits = rw (toZ-ofZ f) g; value = rw (toZ-ofZ f) (toZ-ofZ g) }

@@ -1,0 +1,39 @@
+use mir.Facts.{toZ-ofZ}
+use Rattle.rules.specs.Calls.{calibrate}
+use Rattle.boundary.specs.Exports.{calibration}
+use Rattle.boundary.specs.ExportLaws.{wrong-call, right-call}
+use borrow.Author.Needs.{needs}
+use Rattle.boundary.proofs.mezhtolik_calibrate.Statement.{statement}
+use Rattle.boundary.proofs.mezhtolik_calibrate.Tie as tie
+
+returns : tie.Need-returns
+returns c =
+    let s = c .before in
+    wrong-call (s .args .area .now) (c .if1 .taken) (calibrate (calibration (s .args .probe) (s .args .axis) (s .args .direction) (s .args .setpoint) (s .args .raw) (s .args .tzl) (s .args .tsa)))
+
+unpack-requires : tie.Need-unpack-requires
+unpack-requires c κs = search needs
+
+calibrate-requires : tie.Need-calibrate-requires
+calibrate-requires c κs = search needs
+
+hand-back-requires : tie.Need-hand-back-requires
+hand-back-requires c κs = search needs
+
+same-length : tie.Need-same-length
+same-length c = search needs
+
+returns-2 : tie.Need-returns-2
+returns-2 c =
+    let h = c .before in
+    let a = h .before .before in
+    let u = a .before in
+    let e = u .before .before in
+    let s = e .before in
+    right-call (s .args .area .now) (e .if1 .left) (calibrate (calibration (s .args .probe) (s .args .axis) (s .args .direction) (s .args .setpoint) (s .args .raw) (s .args .tzl) (s .args .tsa)))
+    (rw (u .unpack .ensures, toZ-ofZ (s .fits .probe), toZ-ofZ (s .fits .axis), toZ-ofZ (s .fits .direction), toZ-ofZ (s .fits .setpoint), toZ-ofZ (s .fits .raw), toZ-ofZ (s .fits .tzl), toZ-ofZ (s .fits .tsa)) at (a .calibrate .ensures)) (h .hand-back .ensures)
+
+pub mezhtolik-calibrate-spec : {M : Type 1} → statement M
+mezhtolik-calibrate-spec =
+    tie.close
+    (tie.spec returns unpack-requires calibrate-requires hand-back-requires same-length returns-2)

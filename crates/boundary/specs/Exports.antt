@@ -1,0 +1,101 @@
+-- The exported calls: each is the package's call on the records that the area holds. Beyond document 01's refusals, 100 is an area that has not 137
+-- numbers and 101 a measurement's arguments that are not as many as they should be; both leave every lent buffer and answer zeros.
+use mathlib.Core.Bool.{Bool, cond}
+use mathlib.Core.List.{List}
+use Prim.Native.Nat.{ℕ}
+use lib.Dec.{eqb}
+use lib.IntN.{ℤ}
+use lib.ListN.{length}
+use Rattle.package.specs.Fresh.{freshPackage}
+use Rattle.package.specs.declared.Package.{Package}
+use Rattle.package.specs.declared.Calibration.{Calibration}
+use Rattle.package.specs.declared.Measured.{Measured}
+use Rattle.package.specs.declared.Status.{Status}
+use Rattle.rules.specs.Block.{saved}
+use Rattle.rules.specs.Status.{statusRead}
+use Rattle.rules.specs.Calls.{Call, save, refusal, step}
+use Rattle.rules.specs.Measuring.{toolMeasured, toolArray, zeroMeasured, zeroArray}
+use Rattle.boundary.specs.declared.Decision.{Decision}
+use Rattle.boundary.specs.declared.StatusBits.{StatusBits}
+use Rattle.boundary.specs.Area.{areaLength, packed, unpacked}
+use Rattle.boundary.specs.Arguments.{toolCount, zeroCount, toolFrom, zeroFrom}
+
+abbrev pub wholeArea : List ℤ → Bool
+wholeArea area = eqb (length area) areaLength
+
+-- the area after a call with this refusal: a done one writes all of it, a refused one none
+abbrev pub stored : ℕ → Package → List ℤ → List ℤ
+stored n after area = cond (eqb n 0) (packed after) area
+
+-- ---- settings, calibration, load, fresh: the refusal and the area after the call
+pub record Left : Type 0 where
+  pub refusal : ℕ
+  pub area : List ℤ
+
+abbrev pub left : ℕ → List ℤ → Left
+left refusal area = record { refusal = refusal; area = area }
+
+unfoldable pub called : List ℤ → Call → Left
+called area c =
+    let p = unpacked area in
+    cond (wholeArea area) (left (refusal p c) (stored (refusal p c) (step p c) area)) (left 100 area)
+
+unfoldable pub freshCalled : List ℤ → Left
+freshCalled area = cond (wholeArea area) (left 0 (packed freshPackage)) (left 100 area)
+
+abbrev pub calibration : (probe axis direction setpoint raw tzl tsa : ℤ) → Calibration
+calibration probe axis direction setpoint raw tzl tsa =
+    record { probe = probe; axis = axis; direction = direction; setpoint = setpoint; raw = raw; tzl = tzl; tsa = tsa }
+
+-- ---- status and save, which leave the area
+abbrev pub statusBits : Status → StatusBits
+statusBits s = record { refusal = s .refusal; bits = s .bits; count = s .count }
+
+unfoldable pub statusCalled : List ℤ → ℤ → StatusBits
+statusCalled area probe = cond (wholeArea area) (statusBits (statusRead (unpacked area) probe)) (record { refusal = 100; bits = 0; count = 0 })
+
+pub record Saved : Type 0 where
+  pub refusal : ℕ
+  pub buffer : List ℕ
+
+abbrev pub savedAs : ℕ → List ℕ → Saved
+savedAs refusal buffer = record { refusal = refusal; buffer = buffer }
+
+unfoldable pub saveCalled : List ℤ → List ℕ → Saved
+saveCalled area buffer =
+    let p = unpacked area in
+    cond (wholeArea area) (savedAs (refusal p (save buffer)) (saved p buffer)) (savedAs 100 buffer)
+
+-- ---- measurements: what one answers, and the area and the result array after it
+pub record Reply : Type 0 where
+  pub answer : Decision
+  pub area : List ℤ
+  pub results : List ℤ
+
+abbrev pub reply : Decision → List ℤ → List ℤ → Reply
+reply answer area results = record { answer = answer; area = area; results = results }
+
+abbrev pub decided : Measured → Decision
+decided m = record { refusal = m .refusal; branch = m .branch; verdict = m .verdict }
+
+abbrev pub undecided : ℕ → Decision
+undecided n = record { refusal = n; branch = 0; verdict = 0 }
+
+-- the reply of a measurement, where the area has 137 numbers and the arguments are as many as they should be
+abbrev pub replied : (area numbers : List ℤ) (count : ℕ) → Measured → (after results : List ℤ) → Reply
+replied area numbers count m after results =
+    cond (wholeArea area)
+    (cond (eqb (length numbers) count) (reply (decided m) (stored (m .refusal) (m .after) area) after) (reply (undecided 101) area results))
+    (reply (undecided 100) area results)
+
+unfoldable pub toolCalled : (area numbers results : List ℤ) → ℕ → Reply
+toolCalled area numbers results place =
+    let p = unpacked area in
+    let a = toolFrom numbers in
+    replied area numbers toolCount (toolMeasured p a results place) (toolArray p a results place) results
+
+unfoldable pub zeroCalled : (area numbers results : List ℤ) → ℕ → Reply
+zeroCalled area numbers results place =
+    let p = unpacked area in
+    let a = zeroFrom numbers in
+    replied area numbers zeroCount (zeroMeasured p a results place) (zeroArray p a results place) results

@@ -1,0 +1,151 @@
+// The records that an area holds.
+use crate::AREA;
+use crate::EMPIRICAL;
+use crate::MEANS;
+use crate::OFFSETS;
+use crate::TOOLS;
+use package::Memory;
+use package::Offset;
+use package::Package;
+use package::Probe;
+use package::VALUE_GREATEST;
+use package::VALUE_LEAST;
+use package::Wear;
+use signed::nearest_in;
+ghost use mathlib.Core.Path.{_≡_};
+ghost use mathlib.Core.List.{map};
+ghost use lib.ListN.{length};
+ghost use Rattle.boundary.specs.Area.{valueFrom, statusFrom, probeFrom, wearFrom, offsetFrom, store, unpacked};
+
+// The empirical or mean value of a number.
+fn value_from(v: i32) -> i16
+    ensures { λ r. ⌜ r ≡ valueFrom v ⌝ }
+{
+    nearest_in(v as i64, VALUE_LEAST, VALUE_GREATEST) as i16
+}
+
+// The status of a number.
+fn status_from(v: i32) -> u8
+    ensures { λ r. ⌜ r ≡ statusFrom v ⌝ }
+{
+    nearest_in(v as i64, 0, 255) as u8
+}
+
+// The values of 20 numbers.
+fn read_values(part: &[i32]) -> [i16; 20]
+    requires { ⌜ length (now part) ≡ 20 ⌝ }
+    ensures { λ r. ⌜ r ≡ map valueFrom (now (part .entry)) ⌝ }
+{
+    let mut values = [0i16; 20];
+    let mut i: usize = 0;
+    while i < 20 {
+        values[i] = value_from(part[i]);
+        i += 1;
+    }
+    values
+}
+
+// The probe of 7 numbers.
+fn read_probe(part: &[i32]) -> Probe
+    requires { ⌜ length (now part) ≡ 7 ⌝ }
+    ensures { λ r. ⌜ r ≡ probeFrom (now (part .entry)) ⌝ }
+{
+    Probe {
+        triggers: [part[0], part[1], part[2], part[3], part[4], part[5]],
+        status: status_from(part[6]),
+    }
+}
+
+// The probes of 21 numbers.
+fn read_probes(part: &[i32]) -> [Probe; 3]
+    requires { ⌜ length (now part) ≡ 21 ⌝ }
+    ensures { λ r. ⌜ r ≡ store probeFrom 7 3 (now (part .entry)) ⌝ }
+{
+    let blank = Probe {
+        triggers: [0; 6],
+        status: 0,
+    };
+    let mut probes = [blank; 3];
+    let mut i: usize = 0;
+    while i < 3 {
+        let at = 7 * i;
+        probes[i] = read_probe(&part[at..at + 7]);
+        i += 1;
+    }
+    probes
+}
+
+// The wears of 2 numbers.
+fn read_wear(part: &[i32]) -> Wear
+    requires { ⌜ length (now part) ≡ 2 ⌝ }
+    ensures { λ r. ⌜ r ≡ wearFrom (now (part .entry)) ⌝ }
+{
+    Wear {
+        radius: part[0],
+        length: part[1],
+    }
+}
+
+// The tools of 64 numbers.
+fn read_tools(part: &[i32]) -> [Wear; 32]
+    requires { ⌜ length (now part) ≡ 64 ⌝ }
+    ensures { λ r. ⌜ r ≡ store wearFrom 2 32 (now (part .entry)) ⌝ }
+{
+    let blank = Wear {
+        radius: 0,
+        length: 0,
+    };
+    let mut tools = [blank; 32];
+    let mut i: usize = 0;
+    while i < 32 {
+        let at = 2 * i;
+        tools[i] = read_wear(&part[at..at + 2]);
+        i += 1;
+    }
+    tools
+}
+
+// The zero offset of 3 numbers.
+fn read_offset(part: &[i32]) -> Offset
+    requires { ⌜ length (now part) ≡ 3 ⌝ }
+    ensures { λ r. ⌜ r ≡ offsetFrom (now (part .entry)) ⌝ }
+{
+    Offset {
+        axes: [part[0], part[1], part[2]],
+    }
+}
+
+// The zero offsets of 12 numbers.
+fn read_offsets(part: &[i32]) -> [Offset; 4]
+    requires { ⌜ length (now part) ≡ 12 ⌝ }
+    ensures { λ r. ⌜ r ≡ store offsetFrom 3 4 (now (part .entry)) ⌝ }
+{
+    let blank = Offset { axes: [0; 3] };
+    let mut offsets = [blank; 4];
+    let mut i: usize = 0;
+    while i < 4 {
+        let at = 3 * i;
+        offsets[i] = read_offset(&part[at..at + 3]);
+        i += 1;
+    }
+    offsets
+}
+
+// The records that an area holds.
+pub fn unpack(area: &[i32]) -> Package
+    requires { ⌜ length (now area) ≡ 137 ⌝ }
+    ensures { λ r. ⌜ r ≡ unpacked (now (area .entry)) ⌝ }
+{
+    let probes = read_probes(&area[..EMPIRICAL]);
+    let empirical = read_values(&area[EMPIRICAL..MEANS]);
+    let means = read_values(&area[MEANS..TOOLS]);
+    let tools = read_tools(&area[TOOLS..OFFSETS]);
+    let offsets = read_offsets(&area[OFFSETS..AREA]);
+    let memory = Memory { empirical, means };
+    Package {
+        probes,
+        memory,
+        tools,
+        offsets,
+    }
+}

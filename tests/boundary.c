@@ -1,0 +1,192 @@
+/* The exported calls as C sees them: that each argument, buffer and answer reaches its place, and what refusals leave. Stops at the first fault. */
+#include <stdio.h>
+#include <stdlib.h>
+#include <string.h>
+
+#include "mezhtolik.h"
+
+#define GUARD 77
+#define LENGTH(a) (sizeof(a) / sizeof((a)[0]))
+
+/* The area stands between guards, so that an area of another length can be lent too. */
+static int32_t room[1 + MEZHTOLIK_AREA + 2], room_before[LENGTH(room)];
+static int32_t *const area = room + 1;
+static int32_t results[3 + MEZHTOLIK_RESULTS + 3], results_before[LENGTH(results)];
+static uint8_t buffer[MEZHTOLIK_BLOCK + 2], buffer_before[LENGTH(buffer)];
+static int64_t tool[MEZHTOLIK_TOOL_ARGUMENTS + 1], zero[MEZHTOLIK_ZERO_ARGUMENTS + 1];
+
+static void check(int holds, int line)
+{
+    if (!holds) {
+        printf("boundary.c:%d does not hold\n", line);
+        exit(1);
+    }
+}
+#define CHECK(holds) check(holds, __LINE__)
+
+static void remember(void)
+{
+    memcpy(room_before, room, sizeof room);
+    memcpy(results_before, results, sizeof results);
+    memcpy(buffer_before, buffer, sizeof buffer);
+}
+
+static int area_left(void) { return memcmp(room, room_before, sizeof room) == 0; }
+static int results_left(void) { return memcmp(results, results_before, sizeof results) == 0; }
+static int buffer_left(void) { return memcmp(buffer, buffer_before, sizeof buffer) == 0; }
+static int all_left(void) { return area_left() && results_left() && buffer_left(); }
+
+static int decided(mezhtolik_decision d, uint32_t refusal, uint32_t branch, uint32_t verdict)
+{
+    return d.refusal == refusal && d.branch == branch && d.verdict == verdict;
+}
+
+/* A plane at 1000 u on axis 3, touched in the negative direction, 40 u above its setpoint. */
+static void plane(int64_t *a, int64_t kind)
+{
+    a[MEZHTOLIK_ARG_KIND] = kind;
+    a[MEZHTOLIK_ARG_PROBE] = 2;
+    a[MEZHTOLIK_ARG_AXIS] = 3;
+    a[MEZHTOLIK_ARG_DIRECTION] = 1;
+    a[MEZHTOLIK_ARG_SETPOINT] = 1000;
+    a[MEZHTOLIK_ARG_R1] = 1340;
+}
+
+static void prepare(void)
+{
+    size_t i;
+
+    for (i = 0; i < LENGTH(room); i++) {
+        room[i] = GUARD;
+    }
+    for (i = 0; i < LENGTH(results); i++) {
+        results[i] = GUARD;
+    }
+    memset(buffer, GUARD, sizeof buffer);
+    plane(tool, 0);
+    tool[MEZHTOLIK_ARG_TOOL] = 32;
+    tool[MEZHTOLIK_ARG_EV] = 20;
+    tool[MEZHTOLIK_ARG_K] = 1;
+    tool[MEZHTOLIK_ARG_TUL] = 30;
+    tool[MEZHTOLIK_ARG_TMV] = 100;
+    tool[MEZHTOLIK_ARG_TDIF] = 200;
+    tool[MEZHTOLIK_ARG_TSA] = 300;
+    plane(zero, 100);
+    zero[MEZHTOLIK_ARG_OFFSET] = 4;
+    zero[MEZHTOLIK_ARG_ZERO_TSA] = 300;
+    CHECK(mezhtolik_fresh(area, MEZHTOLIK_AREA) == 0 && room[0] == GUARD && area[MEZHTOLIK_AREA] == GUARD);
+    for (i = 0; i < MEZHTOLIK_AREA; i++) {
+        CHECK(area[i] == 0);
+    }
+}
+
+static void wrong_area(size_t length)
+{
+    mezhtolik_status s = mezhtolik_probe_status(area, length, 1);
+
+    CHECK(s.refusal == 100 && s.bits == 0 && s.count == 0);
+    CHECK(mezhtolik_fresh(area, length) == 100);
+    CHECK(mezhtolik_set_empirical(area, length, 1, 1) == 100);
+    CHECK(mezhtolik_set_wear(area, length, 1, 1, 1) == 100);
+    CHECK(mezhtolik_set_offset(area, length, 1, 1, 1, 1) == 100);
+    CHECK(mezhtolik_calibrate(area, length, 1, 1, 0, 0, 0, 0, 0) == 100);
+    CHECK(decided(mezhtolik_measure_tool(area, length, tool, 0, results, MEZHTOLIK_RESULTS, 0), 100, 0, 0));
+    CHECK(decided(mezhtolik_measure_zero(area, length, zero, 0, results, MEZHTOLIK_RESULTS, 0), 100, 0, 0));
+    CHECK(mezhtolik_load(area, length, buffer, MEZHTOLIK_BLOCK) == 100);
+    CHECK(mezhtolik_save(area, length, buffer, MEZHTOLIK_BLOCK) == 100);
+}
+
+static void settings(void)
+{
+    CHECK(mezhtolik_set_empirical(area, MEZHTOLIK_AREA, 20, -7) == 0 && area[MEZHTOLIK_EV(20)] == -7);
+    CHECK(mezhtolik_set_wear(area, MEZHTOLIK_AREA, 32, -11, 12) == 0);
+    CHECK(area[MEZHTOLIK_RADIUS_WEAR(32)] == -11 && area[MEZHTOLIK_LENGTH_WEAR(32)] == 12);
+    CHECK(mezhtolik_set_offset(area, MEZHTOLIK_AREA, 4, 21, -22, 23) == 0);
+    CHECK(area[MEZHTOLIK_OFFSET(4, 1)] == 21 && area[MEZHTOLIK_OFFSET(4, 2)] == -22 && area[MEZHTOLIK_OFFSET(4, 3)] == 23);
+    remember();
+    CHECK(mezhtolik_set_empirical(area, MEZHTOLIK_AREA, 21, 0) == 2 && mezhtolik_set_empirical(area, MEZHTOLIK_AREA, 1, INT64_MIN) == 3);
+    CHECK(mezhtolik_set_wear(area, MEZHTOLIK_AREA, INT64_MAX, 0, 0) == 2 && mezhtolik_set_wear(area, MEZHTOLIK_AREA, 1, 0, 2000001) == 3);
+    CHECK(mezhtolik_set_offset(area, MEZHTOLIK_AREA, 0, 0, 0, 0) == 2 && mezhtolik_set_offset(area, MEZHTOLIK_AREA, 1, 0, 0, 20000001) == 3);
+    CHECK(all_left());
+}
+
+static void probes(void)
+{
+    mezhtolik_status s;
+
+    CHECK(mezhtolik_calibrate(area, MEZHTOLIK_AREA, 2, 3, 1, 100, 400, 250, 350) == 0);
+    CHECK(area[MEZHTOLIK_TRIGGER(2, 5)] == 300 && area[MEZHTOLIK_STATUS(2)] == 16);
+    s = mezhtolik_probe_status(area, MEZHTOLIK_AREA, 2);
+    CHECK(s.refusal == 0 && s.bits == 16 && s.count == 1);
+    s = mezhtolik_probe_status(area, MEZHTOLIK_AREA, 4);
+    CHECK(s.refusal == 2 && s.bits == 0 && s.count == 0);
+    remember();
+    CHECK(mezhtolik_calibrate(area, MEZHTOLIK_AREA, 2, 3, 1, 100, 800, 250, 350) == 7 && all_left());
+}
+
+static void measurements(void)
+{
+    remember();
+    CHECK(decided(mezhtolik_measure_tool(area, MEZHTOLIK_AREA, tool, 20, results, LENGTH(results), 0), 101, 0, 0));
+    CHECK(decided(mezhtolik_measure_tool(area, MEZHTOLIK_AREA, tool, 22, results, LENGTH(results), 0), 101, 0, 0));
+    CHECK(decided(mezhtolik_measure_zero(area, MEZHTOLIK_AREA, zero, 12, results, LENGTH(results), 0), 101, 0, 0));
+    CHECK(decided(mezhtolik_measure_zero(area, MEZHTOLIK_AREA, zero, 14, results, LENGTH(results), 0), 101, 0, 0));
+    CHECK(decided(mezhtolik_measure_tool(area, MEZHTOLIK_AREA, tool, 21, results, LENGTH(results), 7), 1, 0, 0));
+    CHECK(decided(mezhtolik_measure_zero(area, MEZHTOLIK_AREA, zero, 13, results, LENGTH(results), SIZE_MAX), 1, 0, 0));
+    CHECK(all_left());
+
+    /* 1340 - 300 measured, 7 for the empirical value: 47 above the setpoint, oversize; 2 * 47 h less length wear */
+    CHECK(decided(mezhtolik_measure_tool(area, MEZHTOLIK_AREA, tool, 21, results, LENGTH(results), 3), 0, 2, 1));
+    CHECK(area[MEZHTOLIK_LENGTH_WEAR(32)] == 12 - 94 && area[MEZHTOLIK_RADIUS_WEAR(32)] == -11);
+    CHECK(results[2] == GUARD && results[3 + MEZHTOLIK_RESULTS] == GUARD);
+    CHECK(results[3 + MEZHTOLIK_OVR(16)] == 47 && results[3 + MEZHTOLIK_OVR(20)] == 47 && results[3 + MEZHTOLIK_OVI(8)] == 32);
+
+    CHECK(decided(mezhtolik_measure_zero(area, MEZHTOLIK_AREA, zero, 13, results, LENGTH(results), 3), 0, 6, 0));
+    CHECK(area[MEZHTOLIK_OFFSET(4, 3)] == 23 + 80 && area[MEZHTOLIK_OFFSET(4, 1)] == 21);
+    CHECK(results[3 + MEZHTOLIK_OVR(16)] == 40 && results[3 + MEZHTOLIK_OVI(0)] == 4 && results[3 + MEZHTOLIK_OVI(8)] == 0);
+
+    remember();
+    tool[MEZHTOLIK_ARG_KIND] = 104;
+    CHECK(decided(mezhtolik_measure_tool(area, MEZHTOLIK_AREA, tool, 21, results, LENGTH(results), 3), 2, 0, 0));
+    CHECK(area_left() && results[3 + MEZHTOLIK_OVR(16)] == 0 && results[3 + MEZHTOLIK_OVI(9)] == 2 && results[2] == GUARD);
+}
+
+static void blocks(void)
+{
+    remember();
+    CHECK(mezhtolik_save(area, MEZHTOLIK_AREA, buffer, 79) == 1 && mezhtolik_load(area, MEZHTOLIK_AREA, buffer, 81) == 1 && all_left());
+    CHECK(mezhtolik_save(area, MEZHTOLIK_AREA, buffer, LENGTH(buffer)) == 0 && area_left());
+    CHECK(buffer[38] == 0xf9 && buffer[39] == 0xff && buffer[80] == GUARD && buffer[81] == GUARD);
+    buffer[78] = 0x00;
+    buffer[79] = 0x80;
+    CHECK(mezhtolik_load(area, MEZHTOLIK_AREA, buffer, 80) == 0 && area[MEZHTOLIK_MV(20)] == -32768 && area[MEZHTOLIK_EV(20)] == -7);
+}
+
+static void any_content(void)
+{
+    area[MEZHTOLIK_EV(1)] = 70000;
+    area[MEZHTOLIK_MV(1)] = INT32_MIN;
+    area[MEZHTOLIK_STATUS(1)] = -1;
+    area[MEZHTOLIK_STATUS(3)] = 1000;
+    remember();
+    CHECK(mezhtolik_set_empirical(area, MEZHTOLIK_AREA, 0, 0) == 2 && area_left());
+    CHECK(mezhtolik_set_empirical(area, MEZHTOLIK_AREA, 2, 5) == 0);
+    CHECK(area[MEZHTOLIK_EV(1)] == 32767 && area[MEZHTOLIK_MV(1)] == -32768 && area[MEZHTOLIK_STATUS(1)] == 0 && area[MEZHTOLIK_STATUS(3)] == 255);
+}
+
+int main(void)
+{
+    prepare();
+    remember();
+    wrong_area(0);
+    wrong_area(MEZHTOLIK_AREA - 1);
+    wrong_area(MEZHTOLIK_AREA + 1);
+    CHECK(all_left());
+    settings();
+    probes();
+    measurements();
+    blocks();
+    any_content();
+    CHECK(room[0] == GUARD && area[MEZHTOLIK_AREA] == GUARD && area[MEZHTOLIK_AREA + 1] == GUARD);
+    return 0;
+}
