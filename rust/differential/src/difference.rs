@@ -1,0 +1,76 @@
+//! What may differ.
+
+use std::fmt;
+
+use crate::layout;
+use reference::reckoning::Breach;
+use reference::{Answer, Records};
+
+/// The first difference of a list.
+#[derive(Clone, Debug, PartialEq, Eq)]
+pub enum Difference {
+    /// What a call answers.
+    Answer { package: Answer, reference: Answer },
+    /// Numbers of the area after a call: place, package, reference.
+    Area(Vec<(usize, i32, i32)>),
+    /// What the accessors show of the records.
+    Accessors {
+        shown: Option<Records>,
+        read: Records,
+    },
+    /// Records of the package outside the bounds of the exact reckoning.
+    Bounds(Vec<Breach>),
+    /// A slice of a wrong length: what was not as it should be.
+    Length(String),
+}
+
+impl fmt::Display for Difference {
+    fn fmt(&self, f: &mut fmt::Formatter<'_>) -> fmt::Result {
+        match self {
+            Difference::Answer { package, reference } => {
+                writeln!(f, "the answers differ")?;
+                writeln!(f, "  package   {}", shown(package))?;
+                write!(f, "  reference {}", shown(reference))
+            }
+            Difference::Area(places) => {
+                write!(f, "the records differ")?;
+                places.iter().try_for_each(|(place, package, reference)| {
+                    let name = layout::name(*place);
+                    write!(f, "\n  {name}: package {package}, reference {reference}")
+                })
+            }
+            Difference::Accessors { shown, read } => {
+                write!(
+                    f,
+                    "the accessors differ\n  package   {shown:?}\n  reference {read:?}"
+                )
+            }
+            Difference::Bounds(breaches) => {
+                write!(
+                    f,
+                    "the package's records leave the exact bounds: {breaches:?}"
+                )
+            }
+            Difference::Length(what) => write!(f, "a slice of a wrong length: {what}"),
+        }
+    }
+}
+
+/// An answer with its bytes readable.
+fn shown(answer: &Answer) -> String {
+    let Answer {
+        refusal,
+        branch,
+        verdict,
+        bits,
+        count,
+        array,
+        buffer,
+        length,
+    } = answer;
+    let buffer = buffer.escape_ascii();
+    format!(
+        "refusal {refusal}, branch {branch}, verdict {verdict}, bits {bits:06b}, count {count}, \
+         array {array:?}, length {length}, buffer \"{buffer}\""
+    )
+}
