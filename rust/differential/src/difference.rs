@@ -4,20 +4,17 @@ use std::fmt;
 
 use crate::layout;
 use reference::reckoning::Breach;
-use reference::{Answer, Records};
+use reference::Answer;
 
 /// The first difference of a list.
 #[derive(Clone, Debug, PartialEq, Eq)]
 pub enum Difference {
-    /// What a call answers.
-    Answer { package: Answer, reference: Answer },
+    /// What a call answers: package, reference.
+    Answers(Box<[Answer; 2]>),
     /// Numbers of the area after a call: place, package, reference.
     Area(Vec<(usize, i32, i32)>),
     /// What the accessors show of the records.
-    Accessors {
-        shown: Option<Records>,
-        read: Records,
-    },
+    Accessors(String),
     /// Records of the package outside the bounds of the exact reckoning.
     Bounds(Vec<Breach>),
     /// A slice of a wrong length: what was not as it should be.
@@ -27,10 +24,12 @@ pub enum Difference {
 impl fmt::Display for Difference {
     fn fmt(&self, f: &mut fmt::Formatter<'_>) -> fmt::Result {
         match self {
-            Difference::Answer { package, reference } => {
-                writeln!(f, "the answers differ")?;
-                writeln!(f, "  package   {}", shown(package))?;
-                write!(f, "  reference {}", shown(reference))
+            Difference::Answers(both) => {
+                let [package, reference] = both.each_ref().map(shown);
+                write!(
+                    f,
+                    "the answers differ\n  package   {package}\n  reference {reference}"
+                )
             }
             Difference::Area(places) => {
                 write!(f, "the records differ")?;
@@ -39,12 +38,7 @@ impl fmt::Display for Difference {
                     write!(f, "\n  {name}: package {package}, reference {reference}")
                 })
             }
-            Difference::Accessors { shown, read } => {
-                write!(
-                    f,
-                    "the accessors differ\n  package   {shown:?}\n  reference {read:?}"
-                )
-            }
+            Difference::Accessors(what) => write!(f, "the accessors differ\n{what}"),
             Difference::Bounds(breaches) => {
                 write!(
                     f,

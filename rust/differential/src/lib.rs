@@ -12,7 +12,7 @@ mod odd;
 mod pair;
 mod run;
 mod shrink;
-mod subject;
+pub mod subject;
 mod tally;
 
 pub use difference::Difference;

@@ -41,7 +41,7 @@ impl Pair {
         let package = subject::apply(&mut self.package, call);
         let reference = self.reference.apply(call);
         if package != reference {
-            return Err(Difference::Answer { package, reference });
+            return Err(Difference::Answers(Box::new([package, reference])));
         }
         self.follow(call, &reference);
         self.compare_areas()?;
@@ -76,7 +76,9 @@ impl Pair {
         let read = layout::as_read(self.reference.records());
         match layout::shown(&self.package) {
             Some(shown) if shown == read => Ok(()),
-            shown => Err(Difference::Accessors { shown, read }),
+            shown => Err(Difference::Accessors(format!(
+                "  package   {shown:?}\n  reference {read:?}"
+            ))),
         }
     }
 }

@@ -87,7 +87,7 @@ impl Plan {
     }
 
     fn show(&self, index: u64, lists: u64, what: &str) {
-        if self.progress && (index + 1) % 100 == 0 {
+        if self.progress && (index + 1).is_multiple_of(100) {
             eprintln!("{} of {lists} {what}", index + 1);
         }
     }
@@ -117,7 +117,7 @@ impl fmt::Display for Found {
             self.seed, self.again
         )?;
         match &self.list.start {
-            None => writeln!(f, "from a fresh package, {} calls:", self.list.calls.len())?,
+            None => writeln!(f, "from a fresh package:")?,
             Some(area) => writeln!(f, "from the area {area:?}:")?,
         }
         for (index, call) in self.list.calls.iter().enumerate() {
