@@ -8,6 +8,7 @@ mod timing;
 use rows::Start;
 use timing::{Row, Timed};
 
+/// Rounds unless ROUNDS says otherwise.
 const ROUNDS: usize = 1_001;
 
 fn per_second(nanoseconds: f64) -> String {
@@ -26,13 +27,23 @@ fn print(row: &Row, timed: &Timed) {
     );
 }
 
+/// Rounds by the environment, at least one.
+fn rounds() -> usize {
+    let asked = std::env::var("ROUNDS").ok();
+    asked
+        .and_then(|text| text.parse().ok())
+        .unwrap_or(ROUNDS)
+        .max(1)
+}
+
 fn main() {
     let text = job::text();
     let start = Start::calibrated();
+    let rounds = rounds();
     let mut rows = rows::rows(&start, &text);
-    let timed = timing::time(&mut rows, ROUNDS);
+    let timed = timing::time(&mut rows, rounds);
     println!("job: {}", job::summary(&text));
-    println!("medians of {ROUNDS} rounds, both sides in turns; ratio is the package's speed over the reference's");
+    println!("medians of {rounds} rounds, both sides in turns; ratio is the package's speed over the reference's");
     println!(
         "{:<16} {:>12} {:>12} {:>12} {:>12} {:>8}",
         "", "package", "reference", "package", "reference", "ratio"
