@@ -29,6 +29,7 @@ ghost use Rattle.rules.specs.Probes.{sign, placeOf, triggerOf, calibratedIn, ma
 ghost use Rattle.rules.specs.Calibration.{newTrigger, change, calibrationArguments, calibrationNumbers, calibrationPositions, calibrationLimits, calibratedProbe};
 ghost use Rattle.rules.specs.Status.{statusRead};
 ghost use Rattle.rules.specs.Calls.{answered, calibrate};
+ghost use Rattle.probes.specs.Calibrated.{calibratedWith};
 
 // The trigger place of each axis and direction: axis 1 positive, negative, axis 2, axis 3.
 const PLACES: [usize; 6] = [2, 1, 4, 3, 6, 5];
@@ -149,32 +150,62 @@ fn calibrated_probe(x: Probe, a: Calibration, t: i64, d: i64) -> Probe
     Probe { triggers, status }
 }
 
-// Calibrates one direction of a probe.
-pub fn calibrate(p: Package, a: Calibration) -> Answer
-    ensures { λ r. ⌜ r ≡ answered p (calibrate a) ⌝ }
+// A probe after a calibration, and the refusal number of that.
+pub struct Calibrated {
+    pub after: Probe,
+    pub refusal: u32,
+}
+
+// Calibrates a probe in one direction; its number is only tested.
+pub fn calibrate_probe(x: Probe, a: Calibration) -> Calibrated
+    ensures { λ r. ⌜ r ≡ calibratedWith x a ⌝ }
 {
     let refusal = arguments_refusal(a);
     if refusal != DONE {
-        return Answer { after: p, refusal };
+        return Calibrated { after: x, refusal };
     }
-    let i = index(a.probe);
-    let x = p.probes[i];
     let t = new_trigger(a);
     let d = magnitude(t - trigger_of(x, a.axis, a.direction));
     if a.tsa < d {
-        return Answer {
-            after: p,
+        return Calibrated {
+            after: x,
             refusal: BEYOND_TSA,
         };
     }
     if !in_range(t, -TRIGGER_LIMIT, TRIGGER_LIMIT) {
-        return Answer {
-            after: p,
+        return Calibrated {
+            after: x,
             refusal: LEAVES_RANGE,
         };
     }
+    let after = calibrated_probe(x, a, t, d);
+    Calibrated {
+        after,
+        refusal: DONE,
+    }
+}
+
+// Calibrates one direction of a probe.
+pub fn calibrate(p: Package, a: Calibration) -> Answer
+    ensures { λ r. ⌜ r ≡ answered p (calibrate a) ⌝ }
+{
+    if !in_range(a.probe, 1, PROBES) {
+        return Answer {
+            after: p,
+            refusal: NO_SUCH_NUMBER,
+        };
+    }
+    let i = index(a.probe);
+    let c = calibrate_probe(p.probes[i], a);
+    if c.refusal != DONE {
+        return Answer {
+            after: p,
+            refusal: c.refusal,
+        };
+    }
     let mut after = p;
-    after.probes[i] = calibrated_probe(x, a, t, d);
+    let x = c.after;
+    after.probes[i] = x;
     Answer {
         after,
         refusal: DONE,

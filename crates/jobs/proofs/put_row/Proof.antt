@@ -1,22 +1,15 @@
-use mathlib.Core.Path.{_≡_, ap, _∙_}
+use mathlib.Core.Path.{ap, _∙_}
 use mathlib.Core.List.{List, _++_}
-use Prim.Native.Nat.{ℕ, _+_, _≤_, _<_, _^_}
-use lib.IntN.{ℤ}
+use Prim.Native.Nat.{ℕ, _+_, _≤_}
 use lib.ListN.{length}
-use lib.Signed.{mag}
 use mir.Syntax.{w32}
-use mir.Val.{toZ, ofZ}
-use mir.Facts.{toZ-ofZ}
+use Rattle.signed.specs.CodeLaws.{read-as}
 use Rattle.text.specs.Pieces.{comma, lineFeed}
 use Rattle.text.specs.WrittenLaws.{Put, written-length, chain, fits-front, fits-next}
 use Rattle.jobs.specs.Answers.{wholeField, signedField}
 use Rattle.jobs.specs.declared.Row.{Row}
 use Rattle.jobs.proofs.put_row.Statement.{statement}
 use Rattle.jobs.proofs.put_row.Tie as tie
-
--- a signed field as the code reads it
-back : (z : ℤ) → mag z < 2 ^ 31 → toZ w32 (ofZ w32 z) ≡ z
-back z h = toZ-ofZ (record { sfits = h })
 
 -- the text of the first fields
 abbrev t1 : Row → List ℕ
@@ -104,7 +97,7 @@ put5 : (c : tie.After-put-signed-field) → let s = start5 c in Put (s .args .ou
 put5 c =
     let p = c .before .before .before .before .before in
     let s = start5 c in
-    chain _ _ _ _ _ _ (t4 (s .args .r)) (signedField (s .args .r .deviation) comma) (fits5 s) (put4 p) (rw (back (start5 c .args .r .deviation) (c .before .struct-told .given .1 .1 .1 .1 .0 .1)) at (c .put-signed-field .ensures))
+    chain _ _ _ _ _ _ (t4 (s .args .r)) (signedField (s .args .r .deviation) comma) (fits5 s) (put4 p) (rw (read-as w32 (start5 c .args .r .deviation) (c .before .struct-told .given .1 .1 .1 .1 .0 .1)) at (c .put-signed-field .ensures))
 
 abbrev start6 : tie.After-put-signed-field2 → tie.Start
 start6 c = c .before .before .before .before .before .before .before .before .before .before .before .before .before .before .before .before .before .before .before .before .before .before .before .before .before
@@ -113,7 +106,7 @@ put6 : (c : tie.After-put-signed-field2) → let s = start6 c in Put (s .args .o
 put6 c =
     let p = c .before .before .before .before .before in
     let s = start6 c in
-    chain _ _ _ _ _ _ (t5 (s .args .r)) (signedField (s .args .r .correction) lineFeed) (fits6 s) (put5 p) (rw (back (start6 c .args .r .correction) (c .before .struct-told2 .given .1 .1 .1 .1 .1 .0 .1)) at (c .put-signed-field2 .ensures))
+    chain _ _ _ _ _ _ (t5 (s .args .r)) (signedField (s .args .r .correction) lineFeed) (fits6 s) (put5 p) (rw (read-as w32 (start6 c .args .r .correction) (c .before .struct-told2 .given .1 .1 .1 .1 .1 .0 .1)) at (c .put-signed-field2 .ensures))
 
 put-whole-field-requires : tie.Need-put-whole-field-requires
 put-whole-field-requires c κs = fits1 (c .before .before)
@@ -140,13 +133,13 @@ put-signed-field-requires : tie.Need-put-signed-field-requires
 put-signed-field-requires c κs =
     let p = c .before .before .before .before in
     let s = start4 p in
-    rw (back (s .args .r .deviation) (c .struct-told .given .1 .1 .1 .1 .0 .1)) (fits-next _ _ _ _ (t4 (s .args .r)) (signedField (s .args .r .deviation) comma) (fits5 s) (put4 p))
+    rw (read-as w32 (s .args .r .deviation) (c .struct-told .given .1 .1 .1 .1 .0 .1)) (fits-next _ _ _ _ (t4 (s .args .r)) (signedField (s .args .r .deviation) comma) (fits5 s) (put4 p))
 
 put-signed-field-requires-2 : tie.Need-put-signed-field-requires-2
 put-signed-field-requires-2 c κs =
     let p = c .before .before .before .before in
     let s = start5 p in
-    rw (back (s .args .r .correction) (c .struct-told2 .given .1 .1 .1 .1 .1 .0 .1)) (fits-next _ _ _ _ (t5 (s .args .r)) (signedField (s .args .r .correction) lineFeed) (fits6 s) (put5 p))
+    rw (read-as w32 (s .args .r .correction) (c .struct-told2 .given .1 .1 .1 .1 .1 .0 .1)) (fits-next _ _ _ _ (t5 (s .args .r)) (signedField (s .args .r .correction) lineFeed) (fits6 s) (put5 p))
 
 same-length : tie.Need-same-length
 same-length c =

@@ -1,5 +1,6 @@
 use mathlib.Core.Path.{_≡_, refl, ap, sym, _∙_}
 use Prim.Native.Nat.{ℕ}
+use native.Mathlib.Omega.{arith}
 use lib.IntN.{ℤ}
 use Rattle.signed.specs.CodeLaws.{read}
 use Rattle.rules.specs.Calls.{setEmpirical, setWear, setOffset, calibrate}
@@ -61,8 +62,11 @@ set-offset-requires c κs = search needs
 set-line-requires-3 : tie.Need-set-line-requires-3
 set-line-requires-3 c κs = search needs
 
+slice-aggregate-calibration-of : tie.Need-slice-aggregate-calibration-of
+slice-aggregate-calibration-of c = search needs
+
 calibration-of-requires : tie.Need-calibration-of-requires
-calibration-of-requires c κs = search needs
+calibration-of-requires c κs = omega (arith, slice-aggregate-calibration-of c)
 
 calibrate-requires : tie.Need-calibrate-requires
 calibrate-requires c κs = search needs
@@ -70,14 +74,20 @@ calibrate-requires c κs = search needs
 set-line-requires-4 : tie.Need-set-line-requires-4
 set-line-requires-4 c κs = search needs
 
+slice-aggregate-tool-of : tie.Need-slice-aggregate-tool-of
+slice-aggregate-tool-of c = search needs
+
 tool-of-requires : tie.Need-tool-of-requires
-tool-of-requires c κs = search needs
+tool-of-requires c κs = omega (arith, slice-aggregate-tool-of c)
 
 tool-line-requires : tie.Need-tool-line-requires
 tool-line-requires c κs = search needs
 
+slice-aggregate-zero-of : tie.Need-slice-aggregate-zero-of
+slice-aggregate-zero-of c = search needs
+
 zero-of-requires : tie.Need-zero-of-requires
-zero-of-requires c κs = search needs
+zero-of-requires c κs = omega (arith, slice-aggregate-zero-of c)
 
 zero-line-requires : tie.Need-zero-line-requires
 zero-line-requires c κs = search needs
@@ -156,7 +166,7 @@ unfolding saidIn
 returns-4 c =
     let e = c .before in
     let a = e .before in
-    let m = a .before in
+    let m = a .before .before in
     let v = m .before in
     c .set-line4 .ensures
     ∙ set-ran (start v .args .p) (start v .args .number) _ refl (rw (a .calibration-of .ensures) at (e .calibrate .ensures))
@@ -166,7 +176,7 @@ returns-5 : tie.Need-returns-5
 unfolding saidIn
 returns-5 c =
     let a = c .before in
-    let m = a .before in
+    let m = a .before .before in
     let v = m .before in
     c .tool-line .ensures ∙ rw (a .tool-of .ensures) (answers v _ (said v 84 (m .match .keys5)))
 
@@ -174,7 +184,7 @@ returns-6 : tie.Need-returns-6
 unfolding saidIn
 returns-6 c =
     let a = c .before in
-    let m = a .before in
+    let m = a .before .before in
     let v = m .before in
     c .zero-line .ensures ∙ rw (a .zero-of .ensures) (answers v _ (said v 90 (m .match .keys6)))
 
@@ -207,11 +217,14 @@ run-line-spec =
     array-copy-out-set-offset-4
     set-offset-requires
     set-line-requires-3
+    slice-aggregate-calibration-of
     calibration-of-requires
     calibrate-requires
     set-line-requires-4
+    slice-aggregate-tool-of
     tool-of-requires
     tool-line-requires
+    slice-aggregate-zero-of
     zero-of-requires
     zero-line-requires
     unmeasured-requires

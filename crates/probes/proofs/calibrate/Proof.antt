@@ -1,254 +1,111 @@
 use mathlib.Core.Path.{_≡_, sym, ap, ap₂, _∙_}
-use mathlib.Core.Bool.{Bool, true, false, not}
-use mathlib.Core.List.{List, []}
-use Prim.Native.Nat.{suc, _-_, _<_, _≤_}
+use mathlib.Core.Bool.{true}
+use Prim.Native.Nat.{suc, _-_, _<_}
 use native.Mathlib.Omega.{arith}
-use lib.IntN.{ℤ, pos, natAbs, _-ℤ_}
-use lib.ListN.{getD}
-use lib.Signed.{leZ, ltZ}
+use lib.IntN.{ℤ, pos}
 use mir.Syntax.{w64}
 use mir.Val.{ofZ, toZ}
 use borrow.Author.Needs.{needs}
-use borrow.Author.Tests.{not-true, not-false}
-use Rattle.signed.specs.Ranges.{size}
-use Rattle.signed.specs.RangeLaws.{within-is, below-top, size-in, leZ-not}
-use Rattle.signed.specs.Expressions.{Ex, bound, sub, Runs, run, sized}
+use Rattle.signed.specs.RangeLaws.{within-is, below-top}
+use Rattle.signed.specs.CodeLaws.{read, failed, passed}
 use Rattle.package.specs.declared.Package.{Package}
 use Rattle.package.specs.declared.Probe.{Probe}
-use Rattle.package.specs.declared.Calibration.{Calibration}
 use Rattle.package.specs.declared.Answer.{Answer}
-use Rattle.rules.specs.Stores.{probeNumber, probeOf, withProbe, triggerRange}
-use Rattle.rules.specs.Refusals.{Rule, first}
-use Rattle.rules.specs.RefusalLaws.{Numbered, Passed, all-passed, first-sooner, first-later}
-use Rattle.rules.specs.Probes.{triggerOf}
-use Rattle.rules.specs.Calibration.{newTrigger, change, calibrationNumbers, calibrationPositions, calibrationArguments, calibrationRecords, calibratedProbe}
+use Rattle.rules.specs.Stores.{probeNumber, probeOf, withProbe}
+use Rattle.rules.specs.Calibration.{calibrationArguments}
 use Rattle.rules.specs.Calls.{refusal, calibrate}
-use Rattle.rules.specs.CallLaws.{refused, accepted}
-use Rattle.rules.specs.ProbeLaws.{numbers-are, trigger-in}
-use Rattle.signed.specs.CodeLaws.{read}
-use Rattle.probes.proofs.Laws.{trigger-size}
+use Rattle.rules.specs.CallLaws.{refused}
+use Rattle.probes.specs.Calibrated.{calibratedWith, package-refused, package-done}
+use Rattle.probes.specs.declared.Calibrated.{Calibrated}
 use Rattle.probes.proofs.calibrate.Statement.{statement}
 use Rattle.probes.proofs.calibrate.Tie as tie
 
--- ---- the rules of the arguments
-arguments-refusal-requires : tie.Need-arguments-refusal-requires
-arguments-refusal-requires c κs = search needs
-
--- the rules of the records by the probe's number
-abbrev records : Package → Calibration → ℤ → List Rule
-records p a n = calibrationRecords (probeOf p n) a
-
-returns : tie.Need-returns
-unfolding refusal
-returns c =
-    let p = c .before .before .args .t1 in
-    let a = c .before .before .args .a in
-    let r = c .before .arguments-refusal .result in
-    let some : r ≡ suc (r - 1) = omega (arith, c .if1 .taken) in
-    let e = first-sooner (calibrationArguments a) (records p a (a .probe)) (r - 1) (sym (c .before .arguments-refusal .ensures) ∙ some) in
-    rw some (sym (refused p (calibrate a) (r - 1) e))
-
-numbered : (a : Calibration) → Numbered (calibrationArguments a)
-unfolding calibrationArguments
-numbered a = tt
-
-none : (c : tie.Else1) → first (calibrationArguments (c .before .before .args .a)) ≡ 0
-none c = sym (c .before .arguments-refusal .ensures) ∙ c .if1 .left
-
--- every rule of the arguments passed
-passed : (c : tie.Else1) → Passed (calibrationArguments (c .before .before .args .a))
-passed c = let a = c .before .before .args .a in all-passed (calibrationArguments a) (numbered a) (none c)
-
-numbers : (c : tie.Else1) → calibrationNumbers (c .before .before .args .a) ≡ true
-unfolding calibrationArguments
-numbers c = passed c .0
-
-positions : (c : tie.Else1) → calibrationPositions (c .before .before .args .a) ≡ true
-unfolding calibrationArguments
-positions c = passed c .1 .0
-
--- ---- the probe
-probe-number : (c : tie.Else1) → probeNumber (c .before .before .args .a .probe) ≡ true
-probe-number c = numbers-are (c .before .before .args .a) (numbers c) .0
-
-probe-read : (c : tie.After-struct-told) → let n = c .before .before .before .args .a .probe in toZ w64 (ofZ w64 n) ≡ n
-probe-read c = read (c .before .before .before .args .a .probe) (c .struct-told .given .0 .1)
-
-index-requires : tie.Need-index-requires
-index-requires c κs =
-    let n = c .before .before .before .args .a .probe in
-    rw (probe-read c) (within-is (pos 1) (pos 3) n (probe-number (c .before)) .0)
-
-probe-is : (c : tie.After-index) → c .before .before .before .before .args .a .probe ≡ pos (suc (c .index .result))
-probe-is c = sym (probe-read (c .before)) ∙ c .index .ensures
-
-below : (c : tie.After-index) → c .index .result < 3
-below c = below-top (c .index .result) 3 (rw (probe-is c) at (probe-number (c .before .before)))
-
-mul-x : tie.Need-mul-x
-mul-x c = omega (arith, below c)
-
-element-copy-out-x : tie.Need-element-copy-out-x
-element-copy-out-x c = below c
-
--- ---- t, the stored trigger, and |d|
-new-trigger-requires : tie.Need-new-trigger-requires
-new-trigger-requires c κs = positions (c .before .before .before)
-
-trigger-of-requires : tie.Need-trigger-of-requires
-trigger-of-requires c κs =
-    let e = c .before .before .before .before .before .before in
-    let n = numbers-are (e .before .before .args .a) (numbers e) in
-    search needs
-
--- from where the stored trigger is known: the place of the index, and what the call was given
-abbrev indexed : tie.After-trigger-of → tie.After-index
-indexed c = c .before .before .before .before .before
-
-abbrev held : tie.After-trigger-of → Package
-held c = indexed c .before .before .before .before .args .t1
-
-abbrev given : tie.After-trigger-of → Calibration
-given c = indexed c .before .before .before .before .args .a
-
-abbrev x : tie.After-trigger-of → Probe
-x c = getD (held c .probes) (indexed c .index .result) (record { triggers = []; status = 0 })
-
-new : (c : tie.After-trigger-of) → c .before .before .before .new-trigger .result ≡ newTrigger (given c)
-new c = c .before .before .before .new-trigger .ensures
-
-stored : (c : tie.After-trigger-of) → c .trigger-of .result ≡ triggerOf (x c) (given c .axis) (given c .direction)
-stored c = c .trigger-of .ensures ∙ search needs
-
-new-size : (c : tie.After-trigger-of) → natAbs (c .before .before .before .new-trigger .result) ≤ 20000000
-new-size c = rw (new c) (trigger-size (given c) (positions (indexed c .before .before)))
-
-stored-size : (c : tie.After-trigger-of) → natAbs (c .trigger-of .result) ≤ 100000
-stored-size c =
-    let a = given c in
-    rw (stored c) (size-in 100000 (triggerOf (x c) (a .axis) (a .direction)) (trigger-in (x c) (a .axis) (a .direction)))
-
-abbrev difference : tie.After-trigger-of → Ex w64
-difference c =
-    sub (bound (c .before .before .before .new-trigger .result) 20000000 (new-size c) tt)
-    (bound (c .trigger-of .result) 100000 (stored-size c) tt)
-
-runs : (c : tie.After-trigger-of) → Runs (difference c)
-runs c = run (difference c) tt (search)
-
-sub-magnitude : tie.Need-sub-magnitude
-sub-magnitude c = search (runs c .asks)
-
-magnitude-requires : tie.Need-magnitude-requires
-magnitude-requires c κs = rw (runs c .value) (omega (arith, sized (difference c)))
-
-far : (c : tie.After-magnitude) → c .magnitude .result ≡ size (change (x (c .before)) (given (c .before)))
-unfolding change
-far c = c .magnitude .ensures ∙ ap size (runs (c .before) .value ∙ ap₂ _-ℤ_ (new (c .before)) (stored (c .before)))
-
--- both as the code reads them back
-new-read : (c : tie.After-trigger-of) → toZ w64 (ofZ w64 (c .before .before .before .new-trigger .result)) ≡ newTrigger (given c)
-new-read c = read (c .before .before .before .new-trigger .result) (c .before .before .before .new-trigger .ok) ∙ new c
-
-far-read : (c : tie.After-magnitude) → toZ w64 (ofZ w64 (c .magnitude .result)) ≡ size (change (x (c .before)) (given (c .before)))
-far-read c = read (c .magnitude .result) (c .magnitude .ok) ∙ far c
-
--- ---- the rules of the records
-later : (c : tie.After-trigger-of) → refusal (held c) (calibrate (given c)) ≡ first (calibrationRecords (x c) (given c))
-unfolding refusal
-later c =
-    let p = held c in
-    let a = given c in
-    first-later (calibrationArguments a) (records p a (a .probe)) (numbered a) (none (indexed c .before .before))
-    ∙ ap (λ n. first (records p a n)) (probe-is (indexed c))
-
--- |d| is at most TSA where the code does not find TSA below it
-near : (c : tie.After-struct-told4) (below : Bool) →
-    let m = c .before .before in
-    let a = given (m .before) in
-    ltZ (toZ w64 (ofZ w64 (a .tsa))) (toZ w64 (ofZ w64 (m .magnitude .result))) ≡ below → leZ (size (change (x (m .before)) a)) (a .tsa) ≡ not below
-near c below e =
-    let m = c .before .before in
-    let a = given (m .before) in
-    let tsa = read (a .tsa) (c .struct-told4 .given .1 .1 .1 .1 .1 .1 .0 .1) in
-    leZ-not (a .tsa) (size (change (x (m .before)) a)) ∙ ap not (rw (tsa, far-read m) at e)
-
-returns-2 : tie.Need-returns-2
-unfolding calibrationRecords
-returns-2 c =
-    let t = c .before .before .before .before in
-    sym (refused (held t) (calibrate (given t)) 6 (later t ∙ rw (near (c .before) true (c .if2 .taken))))
-
-sub-in-range : tie.Need-sub-in-range
-sub-in-range c = search needs
+-- ---- the probe's number
+number : (c : tie.After-in-range) → c .in-range .result ≡ probeNumber (c .before .before .args .a .probe)
+number c = rw (read (c .before .before .args .a .probe) (c .before .struct-told .given .0 .1)) at (c .in-range .ensures)
 
 in-range-requires : tie.Need-in-range-requires
 in-range-requires c κs = search needs
 
-tested : (c : tie.After-in-range) → c .in-range .result ≡ triggerRange (newTrigger (given (c .before .before .before .before .before)))
-tested c =
-    let t = c .before .before .before .before .before in
-    c .in-range .ensures ∙ ap triggerRange (new-read t)
+returns : tie.Need-returns
+unfolding refusal calibrationArguments
+returns c =
+    let s = c .before .before .before in
+    sym (refused (s .args .t1) (calibrate (s .args .a)) 1 (rw (failed (number (c .before)) (c .if1 .taken))))
 
-returns-3 : tie.Need-returns-3
-unfolding calibrationRecords
-returns-3 c =
-    let e = c .before .before in
-    let t = e .before .before .before .before in
-    let no : triggerRange (newTrigger (given t)) ≡ false = sym (tested (c .before)) ∙ not-true _ (c .if3 .taken) in
-    sym (refused (held t) (calibrate (given t)) 8 (later t ∙ rw (near (e .before) false (e .if2 .left), no)))
+allowed : (c : tie.Else1) → probeNumber (c .before .before .before .args .a .probe) ≡ true
+allowed c = passed (number (c .before)) (c .if1 .left)
 
--- ---- the probe's new records
-in-range : (c : tie.Else3) → triggerRange (newTrigger (given (c .before .before .before .before .before .before))) ≡ true
-in-range c = sym (tested (c .before)) ∙ not-false _ (c .if3 .left)
+probe-read : (c : tie.After-struct-told2) → let n = c .before .before .before .before .args .a .probe in toZ w64 (ofZ w64 n) ≡ n
+probe-read c = read (c .before .before .before .before .args .a .probe) (c .struct-told2 .given .0 .1)
 
-calibrated-probe-requires : tie.Need-calibrated-probe-requires
-calibrated-probe-requires c κs =
-    let m = c .before .before .before .before .before in
-    let e = new-read (m .before) in
-    (numbers (indexed (m .before) .before .before), ((e, ap triggerRange e ∙ in-range c), far-read m))
+index-requires : tie.Need-index-requires
+index-requires c κs =
+    let n = c .before .before .before .before .args .a .probe in
+    rw (probe-read c) (within-is (pos 1) (pos 3) n (allowed (c .before)) .0)
 
-abbrev reckoned : tie.After-calibrated-probe → tie.After-trigger-of
-reckoned c = c .before .before .before .before .before .before .before
+probe-is : (c : tie.After-index) → c .before .before .before .before .before .args .a .probe ≡ pos (suc (c .index .result))
+probe-is c = sym (probe-read (c .before)) ∙ c .index .ensures
 
-mul-t12 : tie.Need-mul-t12
-mul-t12 c = omega (arith, below (indexed (reckoned c)))
+below : (c : tie.After-index) → c .index .result < 3
+below c = below-top (c .index .result) 3 (rw (probe-is c) at (allowed (c .before .before)))
 
-element-set-from-after : tie.Need-element-set-from-after
-element-set-from-after c = below (indexed (reckoned c))
+mul-calibrate-probe : tie.Need-mul-calibrate-probe
+mul-calibrate-probe c = omega (arith, below c)
+
+element-copy-out-calibrate-probe : tie.Need-element-copy-out-calibrate-probe
+element-copy-out-calibrate-probe c = below c
+
+calibrate-probe-requires : tie.Need-calibrate-probe-requires
+calibrate-probe-requires c κs = search needs
+
+-- ---- what the calibration leaves of the probe
+abbrev start : tie.After-calibrate-probe → tie.Start
+start c = c .before .before .before .before .before .before .before
+
+found : (c : tie.After-calibrate-probe) → let s = start c in c .calibrate-probe .result ≡ calibratedWith (probeOf (s .args .t1) (s .args .a .probe)) (s .args .a)
+found c =
+    let s = start c in
+    c .calibrate-probe .ensures ∙ ap (λ (n : ℤ). calibratedWith (probeOf (s .args .t1) n) (s .args .a)) (sym (probe-is (c .before .before)))
+
+returns-2 : tie.Need-returns-2
+returns-2 c =
+    let f = c .before .before in
+    let s = start f in
+    let r = f .calibrate-probe .result .refusal in
+    let some : r ≡ suc (r - 1) = omega (arith, c .if2 .taken) in
+    rw some (sym (package-refused (s .args .t1) (s .args .a) (r - 1) (ap (λ (x : Calibrated). x .refusal) (sym (found f)) ∙ some)))
+
+mul-x : tie.Need-mul-x
+mul-x c = omega (arith, below (c .before .before .before .before .before))
+
+element-set-from-x : tie.Need-element-set-from-x
+element-set-from-x c = below (c .before .before .before .before .before)
 
 -- the answer by the probe's number
-abbrev done : Package → Calibration → ℤ → Answer
-done p a n = record { after = withProbe p n (calibratedProbe (probeOf p n) a); refusal = 0 }
+abbrev done : Package → ℤ → Probe → Answer
+done p n x = record { after = withProbe p n x; refusal = 0 }
 
-returns-4 : tie.Need-returns-4
-unfolding calibrationRecords
-returns-4 c =
-    let t = reckoned c in
-    let p = held t in
-    let a = given t in
-    let e = c .before .before .before in
-    let none-applies : refusal p (calibrate a) ≡ 0 = later t ∙ rw (near (e .before) false (e .if2 .left), in-range (c .before)) in
-    rw (c .calibrated-probe .ensures) (sym (accepted p (calibrate a) none-applies ∙ ap (done p a) (probe-is (indexed t))))
+returns-3 : tie.Need-returns-3
+returns-3 c =
+    let e = c .before in
+    let f = e .before .before in
+    let s = start f in
+    sym
+    (package-done (s .args .t1) (s .args .a) (ap (λ (x : Calibrated). x .refusal) (sym (found f)) ∙ e .if2 .left)
+    ∙ ap₂ (done (s .args .t1)) (probe-is (f .before .before)) (ap (λ (x : Calibrated). x .after) (sym (found f))))
 
 pub calibrate-spec : {M : Type 1} → statement M
 calibrate-spec =
     tie.close
     (tie.spec
-    arguments-refusal-requires
+    in-range-requires
     returns
     index-requires
-    mul-x
-    element-copy-out-x
-    new-trigger-requires
-    trigger-of-requires
-    sub-magnitude
-    magnitude-requires
+    mul-calibrate-probe
+    element-copy-out-calibrate-probe
+    calibrate-probe-requires
     returns-2
-    sub-in-range
-    in-range-requires
-    returns-3
-    calibrated-probe-requires
-    mul-t12
-    element-set-from-after
-    returns-4)
+    mul-x
+    element-set-from-x
+    returns-3)
