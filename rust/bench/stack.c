@@ -86,7 +86,6 @@ static void save(void)
     mezhtolik_save(area, MEZHTOLIK_AREA, bytes, MEZHTOLIK_BLOCK);
 }
 
-#ifdef JOBS
 static const uint8_t job[] = "C,1,1,0,0,-500,0,1000\nE,1,5\nW,1,2,3\nO,1,2,3,4\nE,1,007\nE,21,0\n"
                              "T,3,1,1,0,200000,0,0,-99510,99550,0,0,4,0,2,5,20,100,150,-150,300,1000\n"
                              "T,1,1,1,0,200000,0,0,-99510,99640,-99510,99640,4,0,2,5,20,100,150,-150,300,1000\n"
@@ -100,7 +99,6 @@ static void run_job(void)
     ENTER();
     mezhtolik_run_job(area, MEZHTOLIK_AREA, job, sizeof job - 1, output, sizeof output);
 }
-#endif
 
 /* One call on a stack of this paint. */
 static size_t depth(void (*call)(void), int paint)
@@ -228,8 +226,6 @@ int main(void)
     show("measure_zero", measuring(measure_zero, 1));
     show("load", most(0, load));
     show("save", most(0, save));
-#ifdef JOBS
     show("run_job", most(0, run_job));
-#endif
     return 0;
 }

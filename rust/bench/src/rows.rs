@@ -3,6 +3,7 @@
 use std::hint::black_box;
 
 use crate::inputs;
+use crate::job::LINES;
 use crate::timing::Row;
 use differential::{layout, subject};
 
@@ -158,9 +159,7 @@ fn blocks(start: &Start) -> [Row<'_>; 2] {
 }
 
 /// The job from a fresh package, a line counting as one.
-#[cfg(feature = "jobs")]
 fn job(text: &[u8]) -> Row<'_> {
-    use crate::job::LINES;
     let mut ours = vec![0; 40 * LINES];
     let mut theirs = ours.clone();
     Row {
@@ -181,11 +180,7 @@ fn job(text: &[u8]) -> Row<'_> {
 
 /// All rows.
 pub fn rows<'a>(start: &'a Start, job_text: &'a [u8]) -> Vec<Row<'a>> {
-    let mut rows = Vec::new();
-    #[cfg(feature = "jobs")]
-    rows.push(job(job_text));
-    #[cfg(not(feature = "jobs"))]
-    let _ = job_text;
+    let mut rows = vec![job(job_text)];
     rows.extend(measurements(start));
     rows.extend(settings(start));
     rows.extend(blocks(start));

@@ -26,10 +26,8 @@ impl fmt::Display for Difference {
         match self {
             Difference::Answers(both) => {
                 let [package, reference] = both.each_ref().map(shown);
-                write!(
-                    f,
-                    "the answers differ\n  package   {package}\n  reference {reference}"
-                )
+                write!(f, "the answers differ{}", first_byte(both))?;
+                write!(f, "\n  package   {package}\n  reference {reference}")
             }
             Difference::Area(places) => {
                 write!(f, "the records differ")?;
@@ -50,7 +48,19 @@ impl fmt::Display for Difference {
     }
 }
 
-/// An answer with its bytes readable.
+/// Bytes of a buffer that are shown.
+const SHOWN: usize = 600;
+
+/// Where the buffers of both answers part, if they do.
+fn first_byte([package, reference]: &[Answer; 2]) -> String {
+    let mut both = package.buffer.iter().zip(&reference.buffer);
+    let place = both.position(|(package, reference)| package != reference);
+    place.map_or(String::new(), |place| {
+        format!(", the buffers from byte {place} on")
+    })
+}
+
+/// An answer with its bytes readable, long buffers cut.
 fn shown(answer: &Answer) -> String {
     let Answer {
         refusal,
@@ -62,7 +72,7 @@ fn shown(answer: &Answer) -> String {
         buffer,
         length,
     } = answer;
-    let buffer = buffer.escape_ascii();
+    let buffer = buffer[..buffer.len().min(SHOWN)].escape_ascii();
     format!(
         "refusal {refusal}, branch {branch}, verdict {verdict}, bits {bits:06b}, count {count}, \
          array {array:?}, length {length}, buffer \"{buffer}\""

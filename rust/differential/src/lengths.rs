@@ -104,15 +104,9 @@ fn call_on(area: &[i32], call: &Call, extra: isize) -> Lent {
     }
 }
 
-#[cfg(feature = "jobs")]
 fn job(area: &mut [i32], text: &[u8], buffer: &mut [u8]) -> [usize; 3] {
     let reply = boundary::run_job(area, text, buffer);
     [reply.refusal as usize, reply.length, 0]
-}
-
-#[cfg(not(feature = "jobs"))]
-fn job(_: &mut [i32], _: &[u8], _: &mut [u8]) -> [usize; 3] {
-    unreachable!("no list has a job without the feature")
 }
 
 fn compare(lent: Lent, expected: Lent, what: &str) -> Result<(), Difference> {

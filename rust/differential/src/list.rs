@@ -43,7 +43,6 @@ impl List {
             }
         };
         let calls = (0..count).map(|_| source.next_call());
-        let calls = calls.filter(|call| cfg!(feature = "jobs") || !is_job(call));
         List {
             start,
             calls: calls.collect(),
@@ -109,10 +108,6 @@ impl List {
             false => Err(Difference::Bounds(breaches)),
         }
     }
-}
-
-fn is_job(call: &Call) -> bool {
-    matches!(call, Call::RunJob { .. })
 }
 
 /// An output buffer of any content: just long enough, longer, or too short.

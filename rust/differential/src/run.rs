@@ -25,7 +25,7 @@ impl Default for Plan {
     fn default() -> Self {
         Plan {
             calls: 400_000,
-            jobs: if cfg!(feature = "jobs") { 10_000 } else { 0 },
+            jobs: 12_000,
             seed: 1,
             fault: None,
             progress: false,

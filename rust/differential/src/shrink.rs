@@ -37,30 +37,43 @@ fn differs(list: &List, fault: Option<Fault>) -> bool {
     list.run(fault, &mut Tally::default()).is_err()
 }
 
+/// The lines of a job, each with its line feed.
+fn lines(text: &[u8]) -> Vec<&[u8]> {
+    text.split_inclusive(|&byte| byte == b'\n').collect()
+}
+
+/// The job of one call with fewer lines and no more output than it needs.
+fn shrink_job(list: &mut List, index: usize, fault: Option<Fault>) {
+    let Call::RunJob { text, buffer } = list.calls[index].clone() else {
+        return;
+    };
+    let mut with = |text: Vec<u8>, buffer: Vec<u8>| {
+        list.calls[index] = Call::RunJob { text, buffer };
+        differs(list, fault)
+    };
+    let text = fewest(&lines(&text), |lines| with(lines.concat(), buffer.clone())).concat();
+    let mut short = buffer.clone();
+    short.truncate(mezhtolik::job_room(&text));
+    if !with(text.clone(), short) {
+        with(text, buffer);
+    }
+}
+
 /// A short list with a difference: fewer calls, and fewer lines in its jobs.
 pub fn shrink(list: &List, fault: Option<Fault>) -> List {
-    let with = |calls: &[Call]| List {
-        start: list.start,
-        calls: calls.to_vec(),
+    let fewer_calls = |list: &List| {
+        let with = |calls: &[Call]| List {
+            start: list.start,
+            calls: calls.to_vec(),
+        };
+        with(&fewest(&list.calls, |calls| differs(&with(calls), fault)))
     };
-    let mut calls = fewest(&list.calls, |calls| differs(&with(calls), fault));
-    for index in 0..calls.len() {
-        let Call::RunJob { text, buffer } = calls[index].clone() else {
-            continue;
-        };
-        let lines: Vec<&[u8]> = text.split_inclusive(|&byte| byte == b'\n').collect();
-        let job = |lines: &[&[u8]]| Call::RunJob {
-            text: lines.concat(),
-            buffer: buffer.clone(),
-        };
-        let lines = fewest(&lines, |lines| {
-            let mut calls = calls.clone();
-            calls[index] = job(lines);
-            differs(&with(&calls), fault)
-        });
-        calls[index] = job(&lines);
+    let mut list = fewer_calls(list);
+    for index in 0..list.calls.len() {
+        shrink_job(&mut list, index, fault);
     }
-    with(&calls)
+    // a job that has lost its lines may not be needed
+    fewer_calls(&list)
 }
 
 #[cfg(test)]

@@ -107,10 +107,7 @@ pub fn apply(package: &mut Package, call: &Call) -> Answer {
         }
         Call::Load { block } => plain(package.load(block)),
         Call::Save { buffer } => save(package, buffer),
-        #[cfg(feature = "jobs")]
         Call::RunJob { text, buffer } => job(package, text, buffer),
-        #[cfg(not(feature = "jobs"))]
-        Call::RunJob { .. } => unreachable!("no list has a job without the feature"),
     }
 }
 
@@ -133,7 +130,6 @@ fn save(package: &Package, buffer: &[u8]) -> Answer {
     }
 }
 
-#[cfg(feature = "jobs")]
 fn job(package: &mut Package, text: &[u8], buffer: &[u8]) -> Answer {
     let mut buffer = buffer.to_vec();
     let result = package.run_job(text, &mut buffer);

@@ -29,7 +29,6 @@ fn a_sound_reference_shows_none() {
 }
 
 /// No line of a job loads a block.
-#[cfg(feature = "jobs")]
 #[test]
 fn jobs_find_every_other_fault_and_show_it_in_few_lines() {
     for fault in Fault::ALL {

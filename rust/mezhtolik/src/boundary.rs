@@ -32,7 +32,6 @@ pub struct RawStatus {
 }
 
 /// What a job answers.
-#[cfg(feature = "jobs")]
 #[repr(C)]
 #[derive(Clone, Copy, Debug, Default, PartialEq, Eq)]
 pub struct RawJob {
@@ -103,7 +102,6 @@ extern "C" {
         buffer: *mut u8,
         buffer_length: usize,
     ) -> u32;
-    #[cfg(feature = "jobs")]
     fn mezhtolik_run_job(
         area: *mut i32,
         area_length: usize,
@@ -204,7 +202,6 @@ pub fn save(area: &[i32], buffer: &mut [u8]) -> u32 {
 }
 
 /// Runs a job and writes the answers of its lines.
-#[cfg(feature = "jobs")]
 pub fn run_job(area: &mut [i32], job: &[u8], output: &mut [u8]) -> RawJob {
     unsafe {
         mezhtolik_run_job(

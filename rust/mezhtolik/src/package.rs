@@ -260,7 +260,6 @@ impl Package {
     /// assert_eq!(package.wear(4).unwrap().radius, 150);
     /// # Ok::<(), mezhtolik::Refusal>(())
     /// ```
-    #[cfg(feature = "jobs")]
     pub fn run_job(&mut self, job: &[u8], output: &mut [u8]) -> Result<usize, Refusal> {
         let reply = boundary::run_job(&mut self.area, job, output);
         outcome(reply.refusal).map(|()| reply.length)

@@ -72,7 +72,6 @@ fn measurements() {
     }
 }
 
-#[cfg(feature = "jobs")]
 #[test]
 fn jobs() {
     for (text, room) in [(&b"E,1,5\n"[..], 40), (b"", 0), (b"E,1,5", 0)] {
