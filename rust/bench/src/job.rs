@@ -78,3 +78,31 @@ pub fn summary(text: &[u8]) -> String {
         text.len()
     )
 }
+
+#[cfg(test)]
+mod tests {
+    use super::*;
+
+    #[test]
+    fn both_sides_answer_the_job_alike_and_refuse_few_lines() {
+        let text = text();
+        let mut output = vec![0; 40 * LINES];
+        let length = mezhtolik::Package::fresh().run_job(&text, &mut output);
+        output.truncate(length.expect("a sound job"));
+        assert_eq!(Ok(&output), fresh_job(&text).as_ref());
+        let lines = String::from_utf8(output).expect("answers are text");
+        let count = |wanted: &dyn Fn(&[&str]) -> bool| {
+            let fields = lines
+                .lines()
+                .map(|line| line.split(',').collect::<Vec<_>>());
+            fields.filter(|fields| wanted(fields)).count()
+        };
+        assert!(count(&|fields| fields[1] != "0") <= LINES / 5);
+        for branch in ["1", "2", "3", "4", "5", "6"] {
+            assert!(
+                count(&|fields| fields[2] == branch) >= 10,
+                "branch {branch}"
+            );
+        }
+    }
+}

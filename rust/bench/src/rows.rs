@@ -186,3 +186,58 @@ pub fn rows<'a>(start: &'a Start, job_text: &'a [u8]) -> Vec<Row<'a>> {
     rows.extend(blocks(start));
     rows
 }
+
+#[cfg(test)]
+mod tests {
+    use super::*;
+    use differential::Pair;
+    use reference::Call;
+
+    /// Makes the calls on both sides and counts them by branch, 0 for refused.
+    fn branches(calls: impl Iterator<Item = Call>) -> [usize; 7] {
+        let mut pair = Pair::of_area(layout::numbers(inputs::calibrated().records()));
+        let mut counts = [0; 7];
+        for call in calls {
+            let answer = pair.step(&call).unwrap_or_else(|found| panic!("{found}"));
+            counts[usize::from(answer.branch)] += 1;
+        }
+        counts
+    }
+
+    #[test]
+    fn parts_end_in_every_branch_and_few_are_refused() {
+        let tool =
+            branches(
+                inputs::tool_parts()
+                    .into_iter()
+                    .map(|measurement| Call::MeasureTool {
+                        measurement,
+                        array: vec![0; 42],
+                        place: 0,
+                    }),
+            );
+        assert!(tool[1..=5].iter().all(|&count| count >= 5), "{tool:?}");
+        assert!(tool[0] <= inputs::PARTS / 5, "{tool:?}");
+        let zero =
+            branches(
+                inputs::zero_parts()
+                    .into_iter()
+                    .map(|measurement| Call::MeasureZero {
+                        measurement,
+                        array: vec![0; 42],
+                        place: 0,
+                    }),
+            );
+        assert!(zero[6] >= inputs::PARTS * 4 / 5, "{zero:?}");
+    }
+
+    #[test]
+    fn recalibrations_are_done() {
+        let calls = inputs::recalibrations().into_iter().map(Call::Calibrate);
+        let mut pair = Pair::of_area(layout::numbers(inputs::calibrated().records()));
+        for call in calls {
+            let answer = pair.step(&call).unwrap_or_else(|found| panic!("{found}"));
+            assert_eq!(answer.refusal, 0);
+        }
+    }
+}

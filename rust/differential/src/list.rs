@@ -133,3 +133,27 @@ fn wrong_lengths(pair: &Pair, call: &Call, index: usize) -> Result<u64, Differen
     lengths::wrong_arguments(area, call, extra)?;
     Ok(2)
 }
+
+#[cfg(test)]
+mod tests {
+    use super::*;
+    use reference::reckoning::Breach;
+
+    /// A mean that no call has set lies outside the bounds of a fresh reckoning.
+    #[test]
+    fn records_outside_the_bounds_are_seen() {
+        let mut area = [0; mezhtolik::AREA];
+        let list = List {
+            start: None,
+            calls: Vec::new(),
+        };
+        let end = |area| list.check_end(&Pair::of_area(area), Some(Reckoning::fresh()));
+        assert_eq!(end(area), Ok(()));
+        area[41] = 1;
+        let breaches = vec![
+            Breach::MeanDistance { number: 1 },
+            Breach::MeanSpan { number: 1 },
+        ];
+        assert_eq!(end(area), Err(Difference::Bounds(breaches)));
+    }
+}

@@ -15,6 +15,12 @@ fn refused(call: impl Fn(&mut [i32]) -> u32) {
 }
 
 #[test]
+fn fresh_clears_any_content() {
+    let mut area = [77; AREA];
+    assert_eq!((fresh(&mut area), area), (0, [0; AREA]));
+}
+
+#[test]
 fn settings_and_blocks() {
     refused(fresh);
     refused(|area| set_empirical(area, 1, 1));

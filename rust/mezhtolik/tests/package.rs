@@ -137,6 +137,40 @@ fn results_go_to_their_place() {
 }
 
 #[test]
+fn refused_jobs_leave_everything() {
+    let long = b"E,1,1\n".repeat(1001);
+    for (job, room, refusal) in [
+        (&b""[..], 40, Refusal::EmptyJob),
+        (b"E,1,1", 40, Refusal::WrongJob),
+        (&long, 40_040, Refusal::WrongJob),
+        (b"E,1,1\nE,2,1\n", 79, Refusal::NoRoom),
+    ] {
+        let mut package = calibrated();
+        let mut output = vec![77; room];
+        assert_eq!(package.run_job(job, &mut output), Err(refusal));
+        assert_eq!((package, output), (calibrated(), vec![77; room]));
+    }
+}
+
+#[test]
+fn jobs_run_on_the_records_that_are_there() {
+    let mut package = calibrated();
+    let job = b"E,20,-7\nE,21,0\n\n";
+    let mut output = [77; 125];
+    assert_eq!(job_room(job), 120);
+    let length = package.run_job(job, &mut output).unwrap();
+    assert_eq!(
+        output[..length],
+        *b"1,0,0,0,0,0\n2,2,0,0,0,0\n3,10,0,0,0,0\n"
+    );
+    assert!(output[length..].iter().all(|&byte| byte == 77));
+    assert_eq!(
+        (package.empirical(20), package.status(1)),
+        (Some(-7), Some(63))
+    );
+}
+
+#[test]
 fn refusals_are_errors() {
     let error: Box<dyn std::error::Error> = Box::new(Refusal::Uncalibrated);
     assert_eq!(
