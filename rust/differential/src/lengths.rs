@@ -31,15 +31,6 @@ fn left(area: &[i32], call: &Call, refusal: Refusal) -> Lent {
     }
 }
 
-fn of_decision(decision: boundary::RawDecision) -> [usize; 3] {
-    let boundary::RawDecision {
-        refusal,
-        branch,
-        verdict,
-    } = decision;
-    [refusal, branch, verdict].map(|number| number as usize)
-}
-
 /// Resizes a measurement's arguments by the extra, which may be negative.
 fn resized(arguments: &[i64], extra: isize) -> Vec<i64> {
     let mut arguments = arguments.to_vec();
@@ -47,66 +38,70 @@ fn resized(arguments: &[i64], extra: isize) -> Vec<i64> {
     arguments
 }
 
-/// Makes the call on an area of any length, with arguments longer by `extra`.
-fn call_on(area: &[i32], call: &Call, extra: isize) -> Lent {
-    let Lent {
-        mut area,
-        mut array,
-        mut buffer,
-        ..
-    } = left(area, call, Refusal::WrongArea);
-    let plain = |refusal: u32| [refusal as usize, 0, 0];
-    let numbers = match call {
-        Call::SetEmpirical { number, value } => {
-            plain(boundary::set_empirical(&mut area, *number, *value))
-        }
-        Call::SetWear {
-            tool,
-            radius,
-            length,
-        } => plain(boundary::set_wear(&mut area, *tool, *radius, *length)),
-        Call::SetOffset { offset, values } => {
-            plain(boundary::set_offset(&mut area, *offset, *values))
-        }
-        Call::Calibrate(call) => plain(boundary::calibrate(
-            &mut area,
-            subject::calibration(call).numbers(),
-        )),
-        Call::Status { probe } => {
-            let status = boundary::probe_status(&area, *probe);
-            [status.refusal, status.bits, status.count].map(|number| number as usize)
-        }
+/// A measurement with arguments longer by `extra`.
+fn measurement(lent: &mut Lent, call: &Call, extra: isize) -> Option<[usize; 3]> {
+    let (area, array) = (&mut lent.area, &mut lent.array);
+    let decision = match call {
         Call::MeasureTool {
             measurement, place, ..
         } => {
             let arguments = resized(&subject::tool(measurement).numbers(), extra);
-            of_decision(boundary::measure_tool(
-                &mut area, &arguments, &mut array, *place,
-            ))
+            boundary::measure_tool(area, &arguments, array, *place)
         }
         Call::MeasureZero {
             measurement, place, ..
         } => {
             let arguments = resized(&subject::zero(measurement).numbers(), extra);
-            of_decision(boundary::measure_zero(
-                &mut area, &arguments, &mut array, *place,
-            ))
+            boundary::measure_zero(area, &arguments, array, *place)
         }
-        Call::Load { block } => plain(boundary::load(&mut area, block)),
-        Call::Save { .. } => plain(boundary::save(&area, &mut buffer)),
-        Call::RunJob { text, .. } => job(&mut area, text, &mut buffer),
+        _ => return None,
     };
-    Lent {
-        numbers,
-        area,
-        array,
-        buffer,
+    let numbers = [decision.refusal, decision.branch, decision.verdict];
+    Some(numbers.map(|number| number as usize))
+}
+
+/// A setting, calibration or block, which answers its refusal alone.
+fn setting(lent: &mut Lent, call: &Call) -> Option<[usize; 3]> {
+    let area = &mut lent.area;
+    let refusal = match call {
+        Call::SetEmpirical { number, value } => boundary::set_empirical(area, *number, *value),
+        Call::SetWear {
+            tool,
+            radius,
+            length,
+        } => boundary::set_wear(area, *tool, *radius, *length),
+        Call::SetOffset { offset, values } => boundary::set_offset(area, *offset, *values),
+        Call::Calibrate(call) => boundary::calibrate(area, subject::calibration(call).numbers()),
+        Call::Load { block } => boundary::load(area, block),
+        Call::Save { .. } => boundary::save(area, &mut lent.buffer),
+        _ => return None,
+    };
+    Some([refusal as usize, 0, 0])
+}
+
+/// A status read or a job.
+fn other(lent: &mut Lent, call: &Call) -> Option<[usize; 3]> {
+    match call {
+        Call::Status { probe } => {
+            let status = boundary::probe_status(&lent.area, *probe);
+            Some([status.refusal, status.bits, status.count].map(|number| number as usize))
+        }
+        Call::RunJob { text, .. } => {
+            let reply = boundary::run_job(&mut lent.area, text, &mut lent.buffer);
+            Some([reply.refusal as usize, reply.length, 0])
+        }
+        _ => None,
     }
 }
 
-fn job(area: &mut [i32], text: &[u8], buffer: &mut [u8]) -> [usize; 3] {
-    let reply = boundary::run_job(area, text, buffer);
-    [reply.refusal as usize, reply.length, 0]
+/// Makes the call on an area of any length, with arguments longer by `extra`.
+fn call_on(area: &[i32], call: &Call, extra: isize) -> Lent {
+    let mut lent = left(area, call, Refusal::WrongArea);
+    let numbers = measurement(&mut lent, call, extra)
+        .or_else(|| setting(&mut lent, call))
+        .or_else(|| other(&mut lent, call));
+    lent.numbers = numbers.expect("every call is one of these");
+    lent
 }
 
 fn compare(lent: Lent, expected: Lent, what: &str) -> Result<(), Difference> {
