@@ -48,6 +48,7 @@ pub struct Calibration {
 
 impl Calibration {
     /// In the order of a `C` line.
+    #[inline]
     pub const fn numbers(&self) -> [i64; 7] {
         [
             self.probe,
@@ -118,6 +119,7 @@ pub struct ToolMeasurement {
 
 impl ToolMeasurement {
     /// In the order of a `T` line.
+    #[inline]
     pub const fn numbers(&self) -> [i64; TOOL_ARGUMENTS] {
         let Probing {
             kind,
@@ -156,6 +158,7 @@ pub struct ZeroMeasurement {
 
 impl ZeroMeasurement {
     /// In the order of a `Z` line.
+    #[inline]
     pub const fn numbers(&self) -> [i64; ZERO_ARGUMENTS] {
         let Probing {
             kind,

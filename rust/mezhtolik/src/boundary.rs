@@ -116,26 +116,31 @@ extern "C" {
 // overlap, which is all that the library asks.
 
 /// Makes the area a fresh package.
+#[inline]
 pub fn fresh(area: &mut [i32]) -> u32 {
     unsafe { mezhtolik_fresh(area.as_mut_ptr(), area.len()) }
 }
 
 /// Sets one empirical value.
+#[inline]
 pub fn set_empirical(area: &mut [i32], ev: i64, value: i64) -> u32 {
     unsafe { mezhtolik_set_empirical(area.as_mut_ptr(), area.len(), ev, value) }
 }
 
 /// Sets both wears of a tool.
+#[inline]
 pub fn set_wear(area: &mut [i32], tool: i64, radius: i64, length: i64) -> u32 {
     unsafe { mezhtolik_set_wear(area.as_mut_ptr(), area.len(), tool, radius, length) }
 }
 
 /// Sets a zero offset on its three axes.
+#[inline]
 pub fn set_offset(area: &mut [i32], offset: i64, [v1, v2, v3]: [i64; 3]) -> u32 {
     unsafe { mezhtolik_set_offset(area.as_mut_ptr(), area.len(), offset, v1, v2, v3) }
 }
 
 /// Calibrates one direction of a probe; the arguments in the order of a C line.
+#[inline]
 pub fn calibrate(area: &mut [i32], arguments: [i64; 7]) -> u32 {
     let [probe, axis, direction, setpoint, raw, tzl, tsa] = arguments;
     let (area, length) = (area.as_mut_ptr(), area.len());
@@ -147,11 +152,13 @@ pub fn calibrate(area: &mut [i32], arguments: [i64; 7]) -> u32 {
 }
 
 /// Reads the status of a probe.
+#[inline]
 pub fn probe_status(area: &[i32], probe: i64) -> RawStatus {
     unsafe { mezhtolik_probe_status(area.as_ptr(), area.len(), probe) }
 }
 
 /// Measures with tool offset; the 21 arguments in the order of a T line.
+#[inline]
 pub fn measure_tool(
     area: &mut [i32],
     arguments: &[i64],
@@ -172,6 +179,7 @@ pub fn measure_tool(
 }
 
 /// Measures with zero offset; the 13 arguments in the order of a Z line.
+#[inline]
 pub fn measure_zero(
     area: &mut [i32],
     arguments: &[i64],
@@ -192,16 +200,19 @@ pub fn measure_zero(
 }
 
 /// Replaces all empirical and mean values by those of a block.
+#[inline]
 pub fn load(area: &mut [i32], block: &[u8]) -> u32 {
     unsafe { mezhtolik_load(area.as_mut_ptr(), area.len(), block.as_ptr(), block.len()) }
 }
 
 /// Writes the block of all empirical and mean values.
+#[inline]
 pub fn save(area: &[i32], buffer: &mut [u8]) -> u32 {
     unsafe { mezhtolik_save(area.as_ptr(), area.len(), buffer.as_mut_ptr(), buffer.len()) }
 }
 
 /// Runs a job and writes the answers of its lines.
+#[inline]
 pub fn run_job(area: &mut [i32], job: &[u8], output: &mut [u8]) -> RawJob {
     unsafe {
         mezhtolik_run_job(

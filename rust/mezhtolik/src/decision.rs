@@ -70,6 +70,7 @@ pub struct Decision {
 }
 
 impl Decision {
+    #[inline]
     pub(crate) fn of(raw: RawDecision) -> Result<Decision, Refusal> {
         outcome(raw.refusal)?;
         Ok(Decision {
@@ -91,6 +92,7 @@ pub struct ProbeStatus {
 }
 
 impl ProbeStatus {
+    #[inline]
     pub(crate) fn of(raw: RawStatus) -> Result<ProbeStatus, Refusal> {
         outcome(raw.refusal)?;
         Ok(ProbeStatus {

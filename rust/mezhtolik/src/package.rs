@@ -28,6 +28,7 @@ impl Default for Package {
 
 impl Package {
     /// A package whose records are all 0 and whose probes are uncalibrated.
+    #[inline]
     pub fn fresh() -> Self {
         let mut area = [0; AREA];
         let refusal = boundary::fresh(&mut area);
@@ -47,11 +48,13 @@ impl Package {
     /// assert_eq!(Package::from_area(kept), package);
     /// # Ok::<(), mezhtolik::Refusal>(())
     /// ```
+    #[inline]
     pub fn from_area(area: [i32; AREA]) -> Self {
         Package { area }
     }
 
     /// All records as numbers: to keep, to compare, to hand to C.
+    #[inline]
     pub fn area(&self) -> &[i32; AREA] {
         &self.area
     }
@@ -66,18 +69,21 @@ impl Package {
     /// assert_eq!(package.set_empirical(0, 12), Err(Refusal::NoSuchNumber));
     /// assert_eq!(package.set_empirical(5, 32_768), Err(Refusal::OutsideRange));
     /// ```
+    #[inline]
     pub fn set_empirical(&mut self, ev: i64, value: i64) -> Result<(), Refusal> {
         outcome(boundary::set_empirical(&mut self.area, ev, value))
     }
 
     /// Sets both wears of a tool (1..32), each within ±2,000,000 h; neither if
     /// one is out of range.
+    #[inline]
     pub fn set_wear(&mut self, tool: i64, radius: i64, length: i64) -> Result<(), Refusal> {
         outcome(boundary::set_wear(&mut self.area, tool, radius, length))
     }
 
     /// Sets a zero offset (1..4) on its three axes, each within ±20,000,000 h;
     /// none if one is out of range.
+    #[inline]
     pub fn set_offset(&mut self, offset: i64, values: [i64; 3]) -> Result<(), Refusal> {
         outcome(boundary::set_offset(&mut self.area, offset, values))
     }
@@ -103,11 +109,13 @@ impl Package {
     /// assert_eq!(package.probe_status(1)?.count, 1);
     /// # Ok::<(), mezhtolik::Refusal>(())
     /// ```
+    #[inline]
     pub fn calibrate(&mut self, calibration: &Calibration) -> Result<(), Refusal> {
         outcome(boundary::calibrate(&mut self.area, calibration.numbers()))
     }
 
     /// Which directions of a probe (1..3) are calibrated.
+    #[inline]
     pub fn probe_status(&self, probe: i64) -> Result<ProbeStatus, Refusal> {
         ProbeStatus::of(boundary::probe_status(&self.area, probe))
     }
@@ -164,6 +172,7 @@ impl Package {
     /// assert_eq!(package.wear(4).unwrap().radius, 150);
     /// # Ok::<(), Refusal>(())
     /// ```
+    #[inline]
     pub fn measure_tool(
         &mut self,
         measurement: &ToolMeasurement,
@@ -199,6 +208,7 @@ impl Package {
     /// assert_eq!(package.offset(4), Some([0, 0, 80]));
     /// # Ok::<(), Refusal>(())
     /// ```
+    #[inline]
     pub fn measure_zero(
         &mut self,
         measurement: &ZeroMeasurement,
@@ -213,6 +223,7 @@ impl Package {
     /// Replaces all EV and MV by those of a block of [`BLOCK`] bytes: EV 1..20,
     /// then MV 1..20, two bytes each, low byte first, two's complement. Each
     /// mean begins again at the loaded value.
+    #[inline]
     pub fn load(&mut self, block: &[u8]) -> Result<(), Refusal> {
         outcome(boundary::load(&mut self.area, block))
     }
@@ -229,6 +240,7 @@ impl Package {
     /// assert_eq!(block[..2], [0xfd, 0xff]);
     /// # Ok::<(), mezhtolik::Refusal>(())
     /// ```
+    #[inline]
     pub fn save(&self, buffer: &mut [u8]) -> Result<(), Refusal> {
         outcome(boundary::save(&self.area, buffer))
     }
@@ -260,6 +272,7 @@ impl Package {
     /// assert_eq!(package.wear(4).unwrap().radius, 150);
     /// # Ok::<(), mezhtolik::Refusal>(())
     /// ```
+    #[inline]
     pub fn run_job(&mut self, job: &[u8], output: &mut [u8]) -> Result<usize, Refusal> {
         let reply = boundary::run_job(&mut self.area, job, output);
         outcome(reply.refusal).map(|()| reply.length)

@@ -67,9 +67,13 @@ impl Refusal {
     }
 
     /// The refusal of a number; 0 and numbers that there are not have none.
-    pub fn from_number(number: u32) -> Option<Refusal> {
-        let mut all = Refusal::ALL.into_iter();
-        all.find(|refusal| refusal.number() == number)
+    pub const fn from_number(number: u32) -> Option<Refusal> {
+        match number {
+            1..=12 => Some(Refusal::ALL[number as usize - 1]),
+            100 => Some(Refusal::WrongArea),
+            101 => Some(Refusal::WrongArguments),
+            _ => None,
+        }
     }
 
     /// What is wrong and what to do.
@@ -102,6 +106,7 @@ impl fmt::Display for Refusal {
 impl Error for Refusal {}
 
 /// The result of a refusal number.
+#[inline]
 pub(crate) fn outcome(number: u32) -> Result<(), Refusal> {
     match number {
         0 => Ok(()),
