@@ -23,9 +23,14 @@ pub struct CallSource {
 
 impl CallSource {
     pub fn new(seed: u64) -> Self {
+        CallSource::following(seed, Package::fresh())
+    }
+
+    /// A source whose first call meets the records of this package.
+    pub fn following(seed: u64, package: Package) -> Self {
         CallSource {
             rng: Rng::new(seed),
-            package: Package::fresh(),
+            package,
         }
     }
 

@@ -1,0 +1,108 @@
+//! A job of 1,000 lines as a setter's day has them.
+
+use crate::inputs;
+use reference::job::fresh_job;
+use reference::line::{fields_of, write_line};
+use reference::Call;
+
+pub const LINES: usize = 1_000;
+
+fn tool_call(turn: usize) -> Call {
+    Call::MeasureTool {
+        measurement: inputs::tool_parts()[turn % inputs::PARTS],
+        array: Vec::new(),
+        place: 0,
+    }
+}
+
+fn zero_call(turn: usize) -> Call {
+    Call::MeasureZero {
+        measurement: inputs::zero_parts()[turn % inputs::PARTS],
+        array: Vec::new(),
+        place: 0,
+    }
+}
+
+/// Settings, and now and then a number that there is not.
+fn setting(turn: usize) -> Call {
+    let number = turn as i64;
+    match turn % 4 {
+        0 => Call::SetEmpirical {
+            number: 1 + number % 21,
+            value: number % 60 - 30,
+        },
+        1 | 2 => Call::SetWear {
+            tool: 1 + number % 32,
+            radius: number % 90,
+            length: -number,
+        },
+        _ => Call::SetOffset {
+            offset: 1 + number % 4,
+            values: [number, -number, 12_000],
+        },
+    }
+}
+
+fn line(number: usize) -> String {
+    let calibrations = inputs::calibrations();
+    let call = match (calibrations.get(number), number % 10) {
+        (Some(calibration), _) => Call::Calibrate(*calibration),
+        (None, 0) => Call::Calibrate(inputs::recalibrations()[number / 10 % 18]),
+        (None, 1) => setting(number / 10),
+        (None, 2..=6) => tool_call(number),
+        (None, 7 | 8) => zero_call(number),
+        // malformed
+        (None, _) if number % 50 == 9 => return "E,1,007".to_owned(),
+        (None, _) => setting(number / 10 + 1),
+    };
+    let (letter, fields) = fields_of(&call).expect("a line holds this call");
+    write_line(letter, &fields)
+}
+
+/// The job's bytes.
+pub fn text() -> Vec<u8> {
+    let lines = (0..LINES).map(|number| line(number) + "\n");
+    lines.collect::<String>().into_bytes()
+}
+
+/// What the job has, by the reference's answers.
+pub fn summary(text: &[u8]) -> String {
+    let output = fresh_job(text).expect("a sound job");
+    let answers = output
+        .split(|&byte| byte == b'\n')
+        .filter(|line| !line.is_empty());
+    let refusal = |line: &[u8]| line.split(|&byte| byte == b',').nth(1) != Some(b"0");
+    let refused = answers.filter(|line| refusal(line)).count();
+    format!(
+        "{LINES} lines, {} bytes, {refused} lines refused",
+        text.len()
+    )
+}
+
+#[cfg(test)]
+mod tests {
+    use super::*;
+
+    #[test]
+    fn both_sides_answer_the_job_alike_and_refuse_few_lines() {
+        let text = text();
+        let mut output = vec![0; 40 * LINES];
+        let length = mezhtolik::Package::fresh().run_job(&text, &mut output);
+        output.truncate(length.expect("a sound job"));
+        assert_eq!(Ok(&output), fresh_job(&text).as_ref());
+        let lines = String::from_utf8(output).expect("answers are text");
+        let count = |wanted: &dyn Fn(&[&str]) -> bool| {
+            let fields = lines
+                .lines()
+                .map(|line| line.split(',').collect::<Vec<_>>());
+            fields.filter(|fields| wanted(fields)).count()
+        };
+        assert!(count(&|fields| fields[1] != "0") <= LINES / 5);
+        for branch in ["1", "2", "3", "4", "5", "6"] {
+            assert!(
+                count(&|fields| fields[2] == branch) >= 10,
+                "branch {branch}"
+            );
+        }
+    }
+}
