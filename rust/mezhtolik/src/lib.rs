@@ -29,3 +29,8 @@ pub use package::{job_room, Package, AREA, BLOCK};
 pub use records::Wear;
 pub use refusal::Refusal;
 pub use results::{Results, RESULTS};
+
+/// The snippets of the README, compiled and run as they stand.
+#[cfg(doctest)]
+#[doc = include_str!("../../../README.md")]
+struct Readme;
