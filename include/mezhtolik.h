@@ -61,6 +61,9 @@ enum {
     MEZHTOLIK_BEYOND_TSA = 7,       /* the deviation or change is larger than TSA */
     MEZHTOLIK_BEYOND_TDIF = 8,      /* the deviation is larger than TDIF */
     MEZHTOLIK_LEAVES_RANGE = 9,     /* a trigger, wear or offset would leave its range */
+    MEZHTOLIK_MALFORMED_LINE = 10,  /* a line of a job is malformed or has over 200 bytes; only in the answer of that line */
+    MEZHTOLIK_EMPTY_JOB = 11,       /* a job of no bytes */
+    MEZHTOLIK_WRONG_JOB = 12,       /* a job of over 65536 bytes or over 1000 lines, or whose last line has no line feed */
     MEZHTOLIK_WRONG_AREA = 100,     /* the area has not MEZHTOLIK_AREA numbers: every buffer is left */
     MEZHTOLIK_WRONG_ARGUMENTS = 101 /* a measurement's arguments are not as many as they should be: every buffer is left */
 };
@@ -177,6 +180,28 @@ uint32_t mezhtolik_load(int32_t *area, size_t area_length, const uint8_t *block,
  * refusal leaves the buffer.
  */
 uint32_t mezhtolik_save(const int32_t *area, size_t area_length, uint8_t *buffer, size_t buffer_length);
+
+/* ---- jobs */
+
+/* The most bytes and lines of a job, and the bytes of output that it needs for each line. */
+#define MEZHTOLIK_JOB_LIMIT 65536
+#define MEZHTOLIK_LINES_LIMIT 1000
+#define MEZHTOLIK_LINE_ROOM 40
+
+/* What a job answers: length is how many bytes of the output it wrote, 0 where it is refused. */
+typedef struct mezhtolik_job {
+    uint32_t refusal;
+    size_t length;
+} mezhtolik_job;
+
+/*
+ * Runs a job, a text of one call a line (docs/JOBS.md), and writes one line of answer for each: line number, refusal, branch, verdict, deviation (OVR[16])
+ * and correction c. A line that is refused changes nothing, and the next one runs. Bytes of the output behind the answers stay.
+ *
+ * Refusals of the job: 100; 11; 12; 1 the output has less than MEZHTOLIK_LINE_ROOM bytes for each line. A refused job runs no line, and leaves the area
+ * and the output.
+ */
+mezhtolik_job mezhtolik_run_job(int32_t *area, size_t area_length, const uint8_t *job, size_t job_length, uint8_t *output, size_t output_length);
 
 #ifdef __cplusplus
 }

@@ -174,6 +174,32 @@ static void any_content(void)
     CHECK(area[MEZHTOLIK_EV(1)] == 32767 && area[MEZHTOLIK_MV(1)] == -32768 && area[MEZHTOLIK_STATUS(1)] == 0 && area[MEZHTOLIK_STATUS(3)] == 255);
 }
 
+/* A calibration and a malformed line. */
+static void jobs(void)
+{
+    static const uint8_t job[] = "C,3,1,0,0,-500,0,1000\nE,01,2\n";
+    static const uint8_t answers[] = "1,0,0,0,0,0\n2,10,0,0,0,0\n";
+    uint8_t output[2 * MEZHTOLIK_LINE_ROOM + 1];
+    mezhtolik_job j;
+
+    memset(output, GUARD, sizeof output);
+    remember();
+    j = mezhtolik_run_job(area, MEZHTOLIK_AREA - 1, job, sizeof job - 1, output, sizeof output);
+    CHECK(j.refusal == MEZHTOLIK_WRONG_AREA && j.length == 0);
+    j = mezhtolik_run_job(area, MEZHTOLIK_AREA, job, 0, output, sizeof output);
+    CHECK(j.refusal == MEZHTOLIK_EMPTY_JOB && j.length == 0);
+    j = mezhtolik_run_job(area, MEZHTOLIK_AREA, job, sizeof job - 2, output, sizeof output);
+    CHECK(j.refusal == MEZHTOLIK_WRONG_JOB && j.length == 0);
+    j = mezhtolik_run_job(area, MEZHTOLIK_AREA, job, sizeof job - 1, output, 2 * MEZHTOLIK_LINE_ROOM - 1);
+    CHECK(j.refusal == MEZHTOLIK_NO_ROOM && j.length == 0);
+    CHECK(all_left() && output[0] == GUARD && memcmp(output, output + 1, sizeof output - 1) == 0);
+
+    j = mezhtolik_run_job(area, MEZHTOLIK_AREA, job, sizeof job - 1, output, 2 * MEZHTOLIK_LINE_ROOM);
+    CHECK(j.refusal == MEZHTOLIK_DONE && j.length == sizeof answers - 1);
+    CHECK(memcmp(output, answers, sizeof answers - 1) == 0 && output[j.length] == GUARD && output[sizeof output - 1] == GUARD);
+    CHECK(area[MEZHTOLIK_TRIGGER(3, 2)] == 500 && area[MEZHTOLIK_STATUS(3)] == 2);
+}
+
 int main(void)
 {
     prepare();
@@ -186,6 +212,7 @@ int main(void)
     probes();
     measurements();
     blocks();
+    jobs();
     any_content();
     CHECK(room[0] == GUARD && area[MEZHTOLIK_AREA] == GUARD && area[MEZHTOLIK_AREA + 1] == GUARD);
     return 0;

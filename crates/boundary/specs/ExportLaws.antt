@@ -16,11 +16,13 @@ use Rattle.rules.specs.InRange.{InRange}
 use Rattle.rules.specs.Block.{saved}
 use Rattle.rules.specs.Status.{statusRead}
 use Rattle.rules.specs.Calls.{Call, save, refusal, done, step, answered}
+use Rattle.jobs.specs.Jobs.{jobRan, jobOutput}
+use Rattle.jobs.specs.declared.Ran.{Ran}
 use Rattle.boundary.specs.declared.Decision.{Decision}
 use Rattle.boundary.specs.declared.StatusBits.{StatusBits}
 use Rattle.boundary.specs.Area.{packed, unpacked}
 use Rattle.boundary.specs.AreaLaws.{packed-long, unpack-pack, in-range-typed}
-use Rattle.boundary.specs.Exports.{wholeArea, stored, left, called, freshCalled, statusBits, statusCalled, savedAs, saveCalled, reply, decided, undecided, replied}
+use Rattle.boundary.specs.Exports.{wholeArea, stored, left, called, freshCalled, statusBits, statusCalled, savedAs, saveCalled, reply, decided, undecided, replied, jobLeft, jobReply, jobCalled}
 
 module _ (area : List ℤ) (wrong : length area ≡ 137 → ⊥) where
   not-whole : wholeArea area ≡ false
@@ -41,6 +43,10 @@ module _ (area : List ℤ) (wrong : length area ≡ 137 → ⊥) where
   pub wrong-save : (buffer : List ℕ) → savedAs 100 buffer ≡ saveCalled area buffer
   unfolding saveCalled
   wrong-save buffer = rw not-whole
+
+  pub wrong-job : (job output : List ℕ) → jobLeft (record { refusal = 100; length = 0 }) area output ≡ jobCalled area job output
+  unfolding jobCalled
+  wrong-job job output = rw not-whole
 
   pub wrong-reply : (numbers : List ℤ) (count : ℕ) (m : Measured) (after results : List ℤ) {r : Decision} → r ≡ undecided 100
       → reply r area results ≡ replied area numbers count m after results
@@ -67,6 +73,12 @@ module _ (area : List ℤ) (right : length area ≡ 137) where
       → savedAs r after ≡ saveCalled area buffer
   unfolding saveCalled
   right-save buffer h = rw (whole, h .0, h .1)
+
+  pub right-job : (job output : List ℕ) {r : Ran} {left : List ℤ} {after : List ℕ}
+      → (r ≡ jobRan (unpacked area) job (length output)) × (after ≡ jobOutput (unpacked area) job output) → left ≡ stored (r .refusal) (r .after) area
+      → jobLeft (jobReply r) left after ≡ jobCalled area job output
+  unfolding jobCalled
+  right-job job output e h = rw (h, e .0, e .1, whole)
 
   -- the arguments are not as many as they should be
   pub wrong-arguments : (numbers : List ℤ) (count : ℕ) (m : Measured) (after results : List ℤ) {r : Decision} → (length numbers ≡ count → ⊥) → r ≡ undecided 101

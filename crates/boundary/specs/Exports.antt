@@ -15,10 +15,13 @@ use Rattle.rules.specs.Block.{saved}
 use Rattle.rules.specs.Status.{statusRead}
 use Rattle.rules.specs.Calls.{Call, save, refusal, step}
 use Rattle.rules.specs.Measuring.{toolMeasured, toolArray, zeroMeasured, zeroArray}
+use Rattle.job_text.specs.Letters.{toolOf, zeroOf}
+use Rattle.jobs.specs.Jobs.{jobRan, jobOutput}
+use Rattle.jobs.specs.declared.Ran.{Ran}
 use Rattle.boundary.specs.declared.Decision.{Decision}
+use Rattle.boundary.specs.declared.JobReply.{JobReply}
 use Rattle.boundary.specs.declared.StatusBits.{StatusBits}
 use Rattle.boundary.specs.Area.{areaLength, packed, unpacked}
-use Rattle.boundary.specs.Arguments.{toolCount, zeroCount, toolFrom, zeroFrom}
 
 abbrev pub wholeArea : List ℤ → Bool
 wholeArea area = eqb (length area) areaLength
@@ -66,7 +69,7 @@ saveCalled area buffer =
     let p = unpacked area in
     cond (wholeArea area) (savedAs (refusal p (save buffer)) (saved p buffer)) (savedAs 100 buffer)
 
--- ---- measurements: what one answers, and the area and the result array after it
+-- ---- measurements: what one answers, and the area and the result array after it; the arguments stand in the order of the fields of a T or Z line
 pub record Reply : Type 0 where
   pub answer : Decision
   pub area : List ℤ
@@ -91,11 +94,28 @@ replied area numbers count m after results =
 unfoldable pub toolCalled : (area numbers results : List ℤ) → ℕ → Reply
 toolCalled area numbers results place =
     let p = unpacked area in
-    let a = toolFrom numbers in
-    replied area numbers toolCount (toolMeasured p a results place) (toolArray p a results place) results
+    let a = toolOf numbers in
+    replied area numbers 21 (toolMeasured p a results place) (toolArray p a results place) results
 
 unfoldable pub zeroCalled : (area numbers results : List ℤ) → ℕ → Reply
 zeroCalled area numbers results place =
     let p = unpacked area in
-    let a = zeroFrom numbers in
-    replied area numbers zeroCount (zeroMeasured p a results place) (zeroArray p a results place) results
+    let a = zeroOf numbers in
+    replied area numbers 13 (zeroMeasured p a results place) (zeroArray p a results place) results
+
+-- ---- jobs: what one answers, and the area and the output after it
+pub record JobLeft : Type 0 where
+  pub answer : JobReply
+  pub area : List ℤ
+  pub output : List ℕ
+
+abbrev pub jobLeft : JobReply → List ℤ → List ℕ → JobLeft
+jobLeft answer area output = record { answer = answer; area = area; output = output }
+
+abbrev pub jobReply : Ran → JobReply
+jobReply r = record { refusal = r .refusal; length = r .length }
+
+unfoldable pub jobCalled : List ℤ → (job output : List ℕ) → JobLeft
+jobCalled area job output =
+    let r = jobRan (unpacked area) job (length output) in
+    cond (wholeArea area) (jobLeft (jobReply r) (stored (r .refusal) (r .after) area) (jobOutput (unpacked area) job output)) (jobLeft (record { refusal = 100; length = 0 }) area output)

@@ -1,12 +1,12 @@
 // Every call of the package for C: the records in an area that the caller lends, 137 numbers, and numbers and slices beside it.
-mod arguments;
 mod read;
 mod write;
 
-use crate::arguments::tool_from;
-use crate::arguments::zero_from;
 use crate::read::unpack;
 use crate::write::pack;
+use job_text::arguments::tool_of;
+use job_text::arguments::zero_of;
+use jobs::run_job;
 use measuring::measure_tool;
 use measuring::measure_zero;
 use package::Answer;
@@ -25,7 +25,7 @@ use records::set_wear;
 ghost use mathlib.Core.Path.{_≡_};
 ghost use lib.ListN.{length};
 ghost use Rattle.rules.specs.Calls.{setEmpirical, setWear, setOffset, calibrate, load};
-ghost use Rattle.boundary.specs.Exports.{stored, left, called, freshCalled, calibration, statusCalled, savedAs, saveCalled, reply, decided, undecided, toolCalled, zeroCalled};
+ghost use Rattle.boundary.specs.Exports.{stored, left, called, freshCalled, calibration, statusCalled, savedAs, saveCalled, reply, decided, undecided, toolCalled, zeroCalled, jobLeft, jobCalled};
 
 // Refusals of this crate alone: an area that has not 137 numbers; arguments that are not as many as a measurement's.
 pub const WRONG_AREA: u32 = 100;
@@ -62,6 +62,13 @@ pub struct StatusBits {
     pub refusal: u32,
     pub bits: u32,
     pub count: u32,
+}
+
+// What a job answers: the length of its output, 0 where it is refused.
+#[repr(C)]
+pub struct JobReply {
+    pub refusal: u32,
+    pub length: usize,
 }
 
 // Writes a package to the area where the call that left it was done.
@@ -230,7 +237,7 @@ pub extern "C" fn mezhtolik_measure_tool(
         return not_made(WRONG_ARGUMENTS);
     }
     let p = unpack(&area[..]);
-    hand_over(measure_tool(p, tool_from(numbers), results, place), area)
+    hand_over(measure_tool(p, tool_of(numbers), results, place), area)
 }
 
 // Measures with zero offset and writes the 42 numbers that begin at place.
@@ -250,7 +257,7 @@ pub extern "C" fn mezhtolik_measure_zero(
         return not_made(WRONG_ARGUMENTS);
     }
     let p = unpack(&area[..]);
-    hand_over(measure_zero(p, zero_from(numbers), results, place), area)
+    hand_over(measure_zero(p, zero_of(numbers), results, place), area)
 }
 
 // Replaces all empirical and mean values by those of a block of 80 bytes.
@@ -274,4 +281,25 @@ pub extern "C" fn mezhtolik_save(area: &[i32], buffer: &mut [u8]) -> u32
         return WRONG_AREA;
     }
     save(unpack(area), buffer)
+}
+
+// Runs a job on the records of the area and writes the answers of its lines to the front of the output.
+#[no_mangle]
+pub extern "C" fn mezhtolik_run_job(area: &mut [i32], job: &[u8], output: &mut [u8]) -> JobReply
+    ensures { λ r. ⌜ jobLeft r (now (area .exit)) (now (output .exit)) ≡ jobCalled (now (area .entry)) (now (job .entry)) (now (output .entry)) ⌝ }
+{
+    if area.len() != AREA {
+        return JobReply {
+            refusal: WRONG_AREA,
+            length: 0,
+        };
+    }
+    let p = unpack(&area[..]);
+    let ran = run_job(p, job, output);
+    let after = ran.after;
+    store_done(after, ran.refusal, area);
+    JobReply {
+        refusal: ran.refusal,
+        length: ran.length,
+    }
 }

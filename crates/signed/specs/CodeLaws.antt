@@ -1,9 +1,9 @@
 -- Signed numbers and tests as the code holds them: a negated test, a store's number and its index, a value that is cast to a narrower type.
 use mathlib.Core.Path.{_≡_, sym, _∙_}
 use mathlib.Core.Bool.{Bool, true, false, not}
-use Prim.Native.Nat.{ℕ, suc, _<_, _^_}
+use Prim.Native.Nat.{ℕ, suc, _<_, _≤_, _^_}
 use lib.Dec.{T, leb, ltb}
-use lib.IntN.{ℤ, pos}
+use lib.IntN.{ℤ, pos, natAbs}
 use lib.Signed.{_≤ℤ_, mag}
 use mir.Syntax.{Width, w64}
 use mir.Val.{SFits, hbits, toZ, ofZ}
@@ -20,8 +20,14 @@ pub passed : {r b : Bool} → r ≡ b → not r ≡ false → b ≡ true
 passed {r} e t = sym e ∙ not-false r t
 
 -- a number that is known to fit, as the code reads it
+pub read-as : (w : Width) (z : ℤ) → mag z < 2 ^ hbits w → toZ w (ofZ w z) ≡ z
+read-as w z h = toZ-ofZ (record { sfits = h })
+
 pub read : (z : ℤ) → mag z < 2 ^ 63 → toZ w64 (ofZ w64 z) ≡ z
-read z h = toZ-ofZ (record { sfits = h })
+read = read-as w64
+
+pub read-size : (n : ℕ) (z : ℤ) → toZ w64 (ofZ w64 z) ≡ z → natAbs z ≤ n → natAbs (toZ w64 (ofZ w64 z)) ≤ n
+read-size n z e h = rw e h
 
 -- a number of a store, as the code reads it
 module _ (top : ℕ) {n : ℤ} (f : SFits w64 n) (e : within (pos 1) (pos top) n ≡ true) where

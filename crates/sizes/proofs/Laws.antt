@@ -49,9 +49,9 @@ plane-numbers k a e n =
     and-eq-true-iff (axisNumber (a .axis)) (directionNumber (a .direction)) .0
     (and-eq-true-iff (probeNumber (a .probe)) (axisNumber (a .axis) && directionNumber (a .direction)) .0 (rw e at n) .1)
 
--- a position
-pub read : (z : ℤ) → positionRange z ≡ true → toZ w64 (ofZ w64 z) ≡ z
-read z e = toZ-ofZ (within-fits (minus 10000000) (pos 10000000) z (sfits-lit tt) (sfits-lit tt) e)
+-- a position, as the code reads it
+pub position-read : (z : ℤ) → positionRange z ≡ true → toZ w64 (ofZ w64 z) ≡ z
+position-read z e = toZ-ofZ (within-fits (minus 10000000) (pos 10000000) z (sfits-lit tt) (sfits-lit tt) e)
 
 -- the raws of a pair, put together from fields that the code reads
 abbrev pub asRead : Raws → Raws
@@ -60,7 +60,7 @@ asRead r = record { low = toZ w64 (ofZ w64 (r .low)); high = toZ w64 (ofZ w64 (r
 pub raws-read : (r : Raws) → rawsOk r ≡ true → asRead r ≡ r
 raws-read r e =
     let t = raws-are r e in
-    rw (read (r .low) (t .0), read (r .high) (t .1), read (r .set) (t .2))
+    rw (position-read (r .low) (t .0), position-read (r .high) (t .1), position-read (r .set) (t .2))
 
 pub as-read-ok : (r : Raws) → rawsOk r ≡ true → rawsOk (asRead r) ≡ true
 as-read-ok r e = ap rawsOk (raws-read r e) ∙ e

@@ -7,8 +7,8 @@ use native.Mathlib.Omega.{arith}
 use lib.IntN.{ℤ, pos, natAbs, _+ℤ_, _-ℤ_, _*ℤ_}
 use lib.ListN.{replicate}
 use lib.Signed.{_≤ℤ_, ltZ, mag}
-use mir.Syntax.{w16, w64}
-use mir.Val.{SFits, toZ, ofZ}
+use mir.Syntax.{w16}
+use mir.Val.{SFits}
 use Rattle.signed.specs.Differences.{ints, parts}
 use Rattle.signed.specs.Sizes.{abs-add}
 use Rattle.signed.specs.Ranges.{minus, within}
@@ -58,10 +58,6 @@ pub probe-passed : (a : ToolMeasurement) → ToolPassed a → probeNumber (a .pa
 probe-passed a h = probe-number (toolKindOf a) (a .part) (tool-numbers a (h .numbers) .numbers)
 
 -- ---- sizes
--- a number as the code reads it
-pub read-size : (n : ℕ) (z : ℤ) → toZ w64 (ofZ w64 z) ≡ z → natAbs z ≤ n → natAbs (toZ w64 (ofZ w64 z)) ≤ n
-read-size n z e h = rw e h
-
 -- a value of an i16
 pub small-value : (z : ℤ) → mag z < 32768 → valueRange z ≡ true
 small-value z h = is-within (minus 32768) (pos 32767) z (low z (record { sfits = h })) (high z (record { sfits = h }))

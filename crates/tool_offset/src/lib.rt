@@ -43,7 +43,7 @@ ghost use mathlib.Core.Path.{_≡_};
 ghost use mathlib.Core.Bool.{true, cond};
 ghost use Prim.Native.Nat.{_≤_};
 ghost use lib.IntN.{pos, natAbs, _+ℤ_, _-ℤ_, _*ℤ_};
-ghost use Rattle.signed.specs.Ranges.{minus, within};
+ghost use Rattle.signed.specs.Ranges.{minus};
 ghost use Rattle.rules.specs.Stores.{pick, put, toolNumber, valueRange, wearRange, probeOf};
 ghost use Rattle.rules.specs.Refusals.{first};
 ghost use Rattle.rules.specs.Sizes.{numbersOk};

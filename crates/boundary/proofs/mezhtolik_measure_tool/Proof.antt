@@ -26,8 +26,8 @@ returns-2 c =
 unpack-requires : tie.Need-unpack-requires
 unpack-requires c κs = search needs
 
-tool-from-requires : tie.Need-tool-from-requires
-tool-from-requires c κs = search needs
+tool-of-requires : tie.Need-tool-of-requires
+tool-of-requires c κs = search needs
 
 measure-tool-requires : tie.Need-measure-tool-requires
 measure-tool-requires c κs = search needs
@@ -51,7 +51,7 @@ returns-3 c =
     let e = u .before .before in
     let s = e .before .before in
     right-reply (s .args .area .now) (e .before .if1 .left) (s .args .numbers .now) 21 _ _ (s .args .results .now) (e .if2 .left)
-    (rw (u .unpack .ensures, a .tool-from .ensures) at (w .measure-tool .ensures)) (h .hand-over .ensures)
+    (rw (u .unpack .ensures, a .tool-of .ensures) at (w .measure-tool .ensures)) (h .hand-over .ensures)
 
 pub mezhtolik-measure-tool-spec : {M : Type 1} → statement M
 mezhtolik-measure-tool-spec =
@@ -62,7 +62,7 @@ mezhtolik-measure-tool-spec =
     not-made-requires-2
     returns-2
     unpack-requires
-    tool-from-requires
+    tool-of-requires
     measure-tool-requires
     hand-over-requires
     same-length

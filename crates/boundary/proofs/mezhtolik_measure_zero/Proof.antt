@@ -26,8 +26,8 @@ returns-2 c =
 unpack-requires : tie.Need-unpack-requires
 unpack-requires c κs = search needs
 
-zero-from-requires : tie.Need-zero-from-requires
-zero-from-requires c κs = search needs
+zero-of-requires : tie.Need-zero-of-requires
+zero-of-requires c κs = search needs
 
 measure-zero-requires : tie.Need-measure-zero-requires
 measure-zero-requires c κs = search needs
@@ -51,7 +51,7 @@ returns-3 c =
     let e = u .before .before in
     let s = e .before .before in
     right-reply (s .args .area .now) (e .before .if1 .left) (s .args .numbers .now) 13 _ _ (s .args .results .now) (e .if2 .left)
-    (rw (u .unpack .ensures, a .zero-from .ensures) at (w .measure-zero .ensures)) (h .hand-over .ensures)
+    (rw (u .unpack .ensures, a .zero-of .ensures) at (w .measure-zero .ensures)) (h .hand-over .ensures)
 
 pub mezhtolik-measure-zero-spec : {M : Type 1} → statement M
 mezhtolik-measure-zero-spec =
@@ -62,7 +62,7 @@ mezhtolik-measure-zero-spec =
     not-made-requires-2
     returns-2
     unpack-requires
-    zero-from-requires
+    zero-of-requires
     measure-zero-requires
     hand-over-requires
     same-length

@@ -13,7 +13,7 @@ use Rattle.rules.specs.Sizes.{surface}
 use Rattle.sizes.specs.declared.Pair.{Pair}
 use Rattle.sizes.specs.Sizes.{pairFrom}
 use Rattle.sizes.specs.SizeLaws.{surface-size, widthCode, centreCode, shiftCode, raws-are}
-use Rattle.sizes.proofs.Laws.{read}
+use Rattle.sizes.proofs.Laws.{position-read}
 use Rattle.sizes.proofs.pair_of.Statement.{statement}
 use Rattle.sizes.proofs.pair_of.Tie as tie
 
@@ -46,7 +46,7 @@ high-direction-is c = toZ-ofZ (record { sfits = c .low-direction2 .ok }) ∙ c .
 surface-of-requires : tie.Need-surface-of-requires
 surface-of-requires c κs =
     let s = c .before .before in
-    ((rw (axis-read s) (s .pre .0), rw (low-direction-is (c .before)) (a-direction (s .args .inside))), rw (read (s .args .r .low) (raws s .0)) (raws s .0))
+    ((rw (axis-read s) (s .pre .0), rw (low-direction-is (c .before)) (a-direction (s .args .inside))), rw (position-read (s .args .r .low) (raws s .0)) (raws s .0))
 
 low-direction-requires-2 : tie.Need-low-direction-requires-2
 low-direction-requires-2 c κs = search needs
@@ -55,7 +55,7 @@ surface-of-requires-2 : tie.Need-surface-of-requires-2
 surface-of-requires-2 c κs =
     let s = c .before .before .before .before .before in (
       (rw (axis-read s) (s .pre .0), rw (high-direction-is (c .before)) (a-direction (not (s .args .inside)))),
-      rw (read (s .args .r .high) (raws s .1)) (raws s .1),
+      rw (position-read (s .args .r .high) (raws s .1)) (raws s .1),
     )
 
 -- the two surfaces
@@ -64,14 +64,14 @@ low-is : (c : tie.After-surface-of) →
     c .surface-of .result ≡ surface (s .x) (s .axis) (cond (s .inside) (pos 1) (pos 0)) (s .r .low)
 low-is c =
     let s = c .before .before .before in
-    rw (axis-read s, low-direction-is (c .before .before), read (s .args .r .low) (raws s .0)) at (c .surface-of .ensures)
+    rw (axis-read s, low-direction-is (c .before .before), position-read (s .args .r .low) (raws s .0)) at (c .surface-of .ensures)
 
 high-is : (c : tie.After-surface-of2) →
     let s = c .before .before .before .before .before .before .args in
     c .surface-of2 .result ≡ surface (s .x) (s .axis) (cond (s .inside) (pos 0) (pos 1)) (s .r .high)
 high-is c =
     let s = c .before .before .before .before .before .before in
-    rw (axis-read s, high-direction-is (c .before .before), turned (s .args .inside), read (s .args .r .high) (raws s .1)) at (c .surface-of2 .ensures)
+    rw (axis-read s, high-direction-is (c .before .before), turned (s .args .inside), position-read (s .args .r .high) (raws s .1)) at (c .surface-of2 .ensures)
 
 low-size : (c : tie.After-surface-of) → natAbs (c .surface-of .result) ≤ 10100000
 low-size c =
@@ -117,7 +117,7 @@ returns c =
     let s = h .before .before .before .before .before .before in
     let low = low-is (h .before .before .before) in
     let high = high-is h in
-    same-pair (wide-runs h .value ∙ rw (low, high)) (middle-runs h .value ∙ rw (low, high)) (moved-runs h .value ∙ rw (low, high)) (read (s .args .r .set) (raws s .2))
+    same-pair (wide-runs h .value ∙ rw (low, high)) (middle-runs h .value ∙ rw (low, high)) (moved-runs h .value ∙ rw (low, high)) (position-read (s .args .r .set) (raws s .2))
 
 sub-t7 : tie.Need-sub-t7
 sub-t7 c = search (wide-runs c .asks)

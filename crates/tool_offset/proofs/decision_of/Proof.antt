@@ -8,7 +8,7 @@ use borrow.Author.Needs.{needs}
 use Rattle.signed.specs.Sizes.{abs-pos}
 use Rattle.signed.specs.Ranges.{eqZ}
 use Rattle.signed.specs.RangeLaws.{within-is}
-use Rattle.signed.specs.CodeLaws.{read}
+use Rattle.signed.specs.CodeLaws.{read, read-size}
 use Rattle.package.specs.declared.ToolMeasurement.{ToolMeasurement}
 use Rattle.rules.specs.Stores.{pick}
 use Rattle.rules.specs.Mean.{meanStep}
@@ -17,7 +17,7 @@ use Rattle.rules.specs.InRangeKept.{left-in-range, at-most}
 use Rattle.rules.specs.MeasuringLaws.{tool-numbers, limits-passed}
 use Rattle.tool_offset.specs.Tool.{ToolPassed}
 use Rattle.tolerance.specs.MeanSize.{mean-size}
-use Rattle.tool_offset.specs.ToolLaws.{read-size, value-size, correction-size}
+use Rattle.tool_offset.specs.ToolLaws.{value-size, correction-size}
 use Rattle.tool_offset.proofs.decision_of.Statement.{statement}
 use Rattle.tool_offset.proofs.decision_of.Tie as tie
 

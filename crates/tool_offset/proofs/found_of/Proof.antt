@@ -6,13 +6,13 @@ use mir.Syntax.{w64}
 use mir.Val.{toZ, ofZ}
 use borrow.Author.Needs.{needs}
 use Rattle.signed.specs.Sizes.{abs-sub}
-use Rattle.signed.specs.CodeLaws.{read}
+use Rattle.signed.specs.CodeLaws.{read, read-size}
 use Rattle.rules.specs.Stores.{probeOf}
 use Rattle.rules.specs.Tool.{toolKindOf, empiricalOf}
 use Rattle.rules.specs.MeasuringLaws.{tool-numbers}
 use Rattle.sizes.specs.Sizes.{sizesOf}
 use Rattle.sizes.specs.SizeLaws.{SizesSmall, sizes-small}
-use Rattle.tool_offset.specs.ToolLaws.{read-size, value-size, factor-size, found-is}
+use Rattle.tool_offset.specs.ToolLaws.{value-size, factor-size, found-is}
 use Rattle.tool_offset.proofs.found_of.Statement.{statement}
 use Rattle.tool_offset.proofs.found_of.Tie as tie
 
