@@ -10,10 +10,6 @@ use mir.Facts.{toZ-ofZ, sfits-widen}
 use Rattle.signed.specs.Ranges.{within, nearestIn}
 use Rattle.boundary.specs.AreaLaws.{nearest-within}
 
--- a number of the area is read back
-pub kept : (z : ℤ) → mag z < 2 ^ 31 → toZ w32 (ofZ w32 z) ≡ z
-kept z h = toZ-ofZ (record { sfits = h })
-
 -- a number of the area as i64, and the nearest to it of a range
 module _ {v : ℤ} (f : SFits w32 v) where
   pub wide : SFits w64 (toZ w32 (ofZ w32 v))

@@ -19,7 +19,7 @@ use Rattle.package.specs.declared.Offset.{Offset}
 use Rattle.rules.specs.Stores.{valueRange}
 use Rattle.rules.specs.StoreLaws.{Store}
 use Rattle.rules.specs.BlockLaws.{Values}
-use Rattle.rules.specs.InRange.{InRange}
+use Rattle.rules.specs.InRange.{ProbeInRange, OffsetInRange, InRange}
 use Rattle.boundary.specs.Area.{probeNumbers, wearNumbers, offsetNumbers, packed, valueFrom, statusFrom, probeFrom, wearFrom, offsetFrom, store, section, unpacked}
 
 -- ---- the nearest number of a range is of the range, and it is the number itself where that is of the range
@@ -108,7 +108,12 @@ probe-back x t =
     let n = t .triggers in
     record {
       long = length-append (x .triggers) (pos (x .status) ∷ []) ∙ omega arith;
-      same = rw (take-at (x .triggers) (pos (x .status) ∷ []) 6 n, getD-at (x .triggers) (pos (x .status)) [] (pos 0) 6 n, status-back (x .status) (t .status));
+      same =
+          rw (
+            take-at (x .triggers) (pos (x .status) ∷ []) 6 n,
+            getD-at (x .triggers) (pos (x .status)) [] (pos 0) 6 n,
+            status-back (x .status) (t .status),
+          );
     }
 
 wear-back : (x : Wear) → Back wearFrom wearNumbers 2 x
@@ -191,9 +196,13 @@ module _ (p : Package) (t : Typed p) where
       values-back empirical (t .empirical .entries))
       (ap (map valueFrom) (section-past probes two 21 20 20 probes-long ∙ section-past empirical three 20 0 20 e ∙ section-front means four 20 m) ∙
       values-back means (t .means .entries))
-      (ap (store wearFrom 2 32) (section-past probes two 21 40 64 probes-long ∙ section-past empirical three 20 20 64 e ∙ section-past means four 20 0 64 m ∙ section-front tools offsets 64 tools-long) ∙
+      (ap (store wearFrom 2 32)
+      (section-past probes two 21 40 64 probes-long ∙ section-past empirical three 20 20 64 e ∙ section-past means four 20 0 64 m ∙
+      section-front tools offsets 64 tools-long) ∙
       store-is wearFrom wearNumbers 2 (p .tools) 32 (t .tools) tools-back)
-      (ap (store offsetFrom 3 4) (section-past probes two 21 104 12 probes-long ∙ section-past empirical three 20 84 12 e ∙ section-past means four 20 64 12 m ∙ section-past tools offsets 64 0 12 tools-long ∙ take-all 12 offsets (omega (arith, offsets-long))) ∙
+      (ap (store offsetFrom 3 4)
+      (section-past probes two 21 104 12 probes-long ∙ section-past empirical three 20 84 12 e ∙ section-past means four 20 64 12 m ∙
+      section-past tools offsets 64 0 12 tools-long ∙ take-all 12 offsets (omega (arith, offsets-long))) ∙
       store-is offsetFrom offsetNumbers 3 (p .offsets) 4 (t .offsets .long) offsets-back)
 
   -- packing and then unpacking gives the records back
@@ -204,9 +213,15 @@ module _ (p : Package) (t : Typed p) where
 pub in-range-typed : (p : Package) → InRange p → Typed p
 in-range-typed p r =
     record {
-      probes = record { long = r .probes .long; entries = each-so (λ x h. record { triggers = h .triggers .long; status = omega (arith, h .status) }) (p .probes) (r .probes .entries) };
+      probes = record { long = r .probes .long; entries = each-so probe-typed (p .probes) (r .probes .entries) };
       empirical = r .empirical;
       means = r .means;
       tools = r .tools .long;
-      offsets = record { long = r .offsets .long; entries = each-so (λ x h. record { axes = h .axes .long }) (p .offsets) (r .offsets .entries) };
+      offsets = record { long = r .offsets .long; entries = each-so offset-typed (p .offsets) (r .offsets .entries) };
     }
+  where
+    probe-typed : (x : Probe) → ProbeInRange x → ProbeTyped x
+    probe-typed x h = record { triggers = h .triggers .long; status = omega (arith, h .status) }
+
+    offset-typed : (x : Offset) → OffsetInRange x → OffsetTyped x
+    offset-typed x h = record { axes = h .axes .long }

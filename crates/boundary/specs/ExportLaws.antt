@@ -81,7 +81,8 @@ module _ (area : List ℤ) (right : length area ≡ 137) where
   right-job job output e h = rw (h, e .0, e .1, whole)
 
   -- the arguments are not as many as they should be
-  pub wrong-arguments : (numbers : List ℤ) (count : ℕ) (m : Measured) (after results : List ℤ) {r : Decision} → (length numbers ≡ count → ⊥) → r ≡ undecided 101
+  pub wrong-arguments : (numbers : List ℤ) (count : ℕ) (m : Measured) (after results : List ℤ) {r : Decision}
+      → (length numbers ≡ count → ⊥) → r ≡ undecided 101
       → reply r area results ≡ replied area numbers count m after results
   wrong-arguments numbers count m after results n e = rw (e, whole, ne-eqb (length numbers) count n)
 

@@ -104,7 +104,8 @@ put-after front rest ys a k h = rw (take-at front rest a h, drop-at front rest a
 
 pub sections : (probes empirical means tools offsets old : List ℤ)
     → length probes ≡ 21 → length empirical ≡ 20 → length means ≡ 20 → length tools ≡ 64 → length old ≡ 137
-    → putMid 125 12 (putMid 61 64 (putMid 41 20 (putMid 21 20 (probes ++ drop 21 old) empirical) means) tools) offsets ≡ probes ++ empirical ++ means ++ tools ++ offsets
+    → putMid 125 12 (putMid 61 64 (putMid 41 20 (putMid 21 20 (probes ++ drop 21 old) empirical) means) tools) offsets
+    ≡ probes ++ empirical ++ means ++ tools ++ offsets
 sections probes empirical means tools offsets old p e m t n =
     let a = length-append probes empirical in
     let b = length-append (probes ++ empirical) means in

@@ -37,7 +37,7 @@ const TOOL_NUMBERS: usize = 21;
 
 const ZERO_NUMBERS: usize = 13;
 
-// Where each section of the area starts, and how many numbers it has.
+// Where each section of the area starts, and how many numbers the area has.
 const EMPIRICAL: usize = 21;
 
 const MEANS: usize = 41;

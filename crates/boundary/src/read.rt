@@ -131,7 +131,7 @@ fn read_offsets(part: &[i32]) -> [Offset; 4]
     offsets
 }
 
-// The records that an area holds.
+// The records that an area holds. No call of a user.
 pub fn unpack(area: &[i32]) -> Package
     requires { ⌜ length (now area) ≡ 137 ⌝ }
     ensures { λ r. ⌜ r ≡ unpacked (now (area .entry)) ⌝ }

@@ -111,7 +111,7 @@ fn write_offsets(offsets: [Offset; 4], part: &mut [i32])
     }
 }
 
-// Writes the records to an area.
+// Writes the records to an area. No call of a user.
 pub fn pack(p: Package, area: &mut [i32])
     requires { ⌜ length (now area) ≡ 137 ⌝ }
     ensures { λ _. ⌜ now (area .exit) ≡ packed p ⌝ }

@@ -4,9 +4,10 @@ use lib.IntN.{pos}
 use lib.ListN.{getD}
 use lib.Seq.{take-all}
 use borrow.Author.Needs.{needs}
+use mir.Syntax.{w32}
+use Rattle.signed.specs.CodeLaws.{read-as}
 use Rattle.boundary.specs.Area.{offsetFrom}
 use Rattle.boundary.specs.LoopLaws.{named-is}
-use Rattle.boundary.proofs.Laws.{kept}
 use Rattle.boundary.proofs.read.read_offset.Statement.{statement}
 use Rattle.boundary.proofs.read.read_offset.Tie as tie
 
@@ -23,7 +24,7 @@ returns : tie.Need-returns
 returns c =
     let s = c .before .before .before in
     let zs = s .args .part .now in
-    rw (kept (getD zs 0 (pos 0)) (c .before .before .t3 .given), kept (getD zs 1 (pos 0)) (c .before .t5 .given), kept (getD zs 2 (pos 0)) (c .t7 .given))
+    rw (read-as w32 (getD zs 0 (pos 0)) (c .before .before .t3 .given), read-as w32 (getD zs 1 (pos 0)) (c .before .t5 .given), read-as w32 (getD zs 2 (pos 0)) (c .t7 .given))
     (ap offsetFrom (named-is zs 0 3 (omega (arith, s .pre)) ∙ take-all 3 zs (omega (arith, s .pre))))
 
 pub read-offset-spec : {M : Type 1} → statement M

@@ -3,8 +3,9 @@ use native.Mathlib.Omega.{arith}
 use lib.IntN.{pos}
 use lib.ListN.{getD, take}
 use borrow.Author.Needs.{needs}
+use mir.Syntax.{w32}
+use Rattle.signed.specs.CodeLaws.{read-as}
 use Rattle.boundary.specs.LoopLaws.{named, named-is}
-use Rattle.boundary.proofs.Laws.{kept}
 use Rattle.boundary.proofs.read.read_probe.Statement.{statement}
 use Rattle.boundary.proofs.read.read_probe.Tie as tie
 
@@ -44,15 +45,15 @@ returns c =
     let zs = s .args .part .now in
     let six : named zs 0 6 ≡ take 6 zs = named-is zs 0 6 (omega (arith, s .pre)) in
     rw (
-      kept (getD zs 0 (pos 0)) (t3 .t3 .given),
-      kept (getD zs 1 (pos 0)) (t5 .t5 .given),
-      kept (getD zs 2 (pos 0)) (t7 .t7 .given),
-      kept (getD zs 3 (pos 0)) (t9 .t9 .given),
-      kept (getD zs 4 (pos 0)) (t11 .t11 .given),
-      kept (getD zs 5 (pos 0)) (t13 .t13 .given),
+      read-as w32 (getD zs 0 (pos 0)) (t3 .t3 .given),
+      read-as w32 (getD zs 1 (pos 0)) (t5 .t5 .given),
+      read-as w32 (getD zs 2 (pos 0)) (t7 .t7 .given),
+      read-as w32 (getD zs 3 (pos 0)) (t9 .t9 .given),
+      read-as w32 (getD zs 4 (pos 0)) (t11 .t11 .given),
+      read-as w32 (getD zs 5 (pos 0)) (t13 .t13 .given),
       six,
       c .status-from .ensures,
-      kept (getD zs 6 (pos 0)) (c .before .status-from-arg .given),
+      read-as w32 (getD zs 6 (pos 0)) (c .before .status-from-arg .given),
     )
 
 pub read-probe-spec : {M : Type 1} → statement M

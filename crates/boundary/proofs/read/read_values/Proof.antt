@@ -4,12 +4,12 @@ use Prim.Native.Nat.{_≤_, _-_}
 use native.Mathlib.Omega.{arith}
 use lib.IntN.{pos}
 use lib.ListN.{length, getD, length-map, List·getD-map}
-use mir.Syntax.{w16}
+use mir.Syntax.{w16, w32}
 use mir.Val.{toZ, ofZ}
 use borrow.Author.Needs.{needs}
+use Rattle.signed.specs.CodeLaws.{read-as}
 use Rattle.lists.specs.Copied.{copied, copied-suc, copied-all}
 use Rattle.boundary.specs.Area.{valueFrom}
-use Rattle.boundary.proofs.Laws.{kept}
 use Rattle.boundary.proofs.read.read_values.Statement.{statement}
 use Rattle.boundary.proofs.read.read_values.Tie as tie
 
@@ -51,7 +51,9 @@ loop-again c =
     let l = c .before .before .before in
     let i = l .loop .i in
     let zs = l .before .args .part .now in
-    let r : c .value-from .result ≡ getD (map valueFrom zs) i (valueFrom (pos 0)) = c .value-from .ensures ∙ rw (kept (getD zs i (pos 0)) (c .before .value-from-arg .given)) (sym (List·getD-map valueFrom zs i (pos 0))) in
+    let arg = read-as w32 (getD zs i (pos 0)) (c .before .value-from-arg .given) in
+    let r : c .value-from .result ≡ getD (map valueFrom zs) i (valueFrom (pos 0)) =
+    c .value-from .ensures ∙ rw arg (sym (List·getD-map valueFrom zs i (pos 0))) in
     let back : toZ w16 (ofZ w16 (c .value-from .result)) ≡ c .value-from .result = search needs in
     let n = twenty l in
     (omega arith, rw (l .loop .inv .1, back, r) (copied-suc _ (map valueFrom zs) i (valueFrom (pos 0)) (omega arith) (omega arith)))

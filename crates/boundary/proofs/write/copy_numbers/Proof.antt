@@ -4,8 +4,9 @@ use Prim.Native.Nat.{_≤_, _-_}
 use native.Mathlib.Omega.{arith}
 use lib.IntN.{pos}
 use lib.ListN.{length, getD, drop-of-length-le}
+use mir.Syntax.{w32}
+use Rattle.signed.specs.CodeLaws.{read-as}
 use Rattle.lists.specs.Copied.{copied, copied-suc, copied-length, copied-all}
-use Rattle.boundary.proofs.Laws.{kept}
 use Rattle.boundary.proofs.write.copy_numbers.Statement.{statement}
 use Rattle.boundary.proofs.write.copy_numbers.Tie as tie
 
@@ -45,7 +46,7 @@ loop-again c =
     let i = l .loop .i in
     let numbers = l .before .args .numbers .now in (
       omega arith,
-      rw (l .loop .inv .1, kept (getD numbers i (pos 0)) (c .v .given)) (copied-suc (l .before .args .part .now) numbers i (pos 0) (omega arith) (omega arith)),
+      rw (l .loop .inv .1, read-as w32 (getD numbers i (pos 0)) (c .v .given)) (copied-suc (l .before .args .part .now) numbers i (pos 0) (omega arith) (omega arith)),
     )
 
 same-length : tie.Need-same-length Inv-loop μ-loop

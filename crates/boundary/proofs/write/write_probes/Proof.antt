@@ -65,7 +65,8 @@ loop-again c =
     let l = t .before in
     let w = c .before .write-probe in (
       omega arith,
-      wrote-suc probeNumbers 7 (l .before .args .t1) (l .before .args .part .now) (l .loop .i) _ (l .loop .inv .1) (omega (arith, long l)) (w .ensures) (w .kept .1 .0 ∙ part-written t),
+      wrote-suc probeNumbers 7 (l .before .args .t1) (l .before .args .part .now) (l .loop .i) _ (l .loop .inv .1)
+          (omega (arith, long l)) (w .ensures) (w .kept .1 .0 ∙ part-written t),
     )
 
 same-length : tie.Need-same-length Inv-loop μ-loop

@@ -4,7 +4,8 @@ use native.Mathlib.Omega.{arith}
 use lib.IntN.{ℤ}
 use lib.ListN.{length, set}
 use borrow.Author.Needs.{needs}
-use Rattle.boundary.proofs.Laws.{kept}
+use mir.Syntax.{w32}
+use Rattle.signed.specs.CodeLaws.{read-as}
 use Rattle.boundary.proofs.write.write_wear.Statement.{statement}
 use Rattle.boundary.proofs.write.write_wear.Tie as tie
 
@@ -26,7 +27,7 @@ same-length c = search needs
 returns : tie.Need-returns
 returns c =
     let s = c .before .before in
-    rw (kept (s .args .x .radius) (c .before .struct-told .given .0 .1), kept (s .args .x .length) (c .struct-told2 .given .1 .0 .1))
+    rw (read-as w32 (s .args .x .radius) (c .before .struct-told .given .0 .1), read-as w32 (s .args .x .length) (c .struct-told2 .given .1 .0 .1))
     (two-set (s .args .part .now) (s .args .x .radius) (s .args .x .length) (s .pre))
 
 pub write-wear-spec : {M : Type 1} → statement M
