@@ -3,7 +3,7 @@ use mathlib.Core.Path.{_≡_}
 use mathlib.Core.Bool.{Bool, true, false, not, cond}
 use mathlib.Core.List.{List, [], _∷_}
 use Prim.Native.Nat.{_≤_}
-use lib.IntN.{ℤ, pos, natAbs, _+ℤ_, _*ℤ_}
+use lib.IntN.{ℤ, pos, natAbs, _+ℤ_, _-ℤ_, _*ℤ_}
 use lib.Signed.{leZ}
 use Rattle.signed.specs.Ranges.{minus, within, size, eqZ}
 use Rattle.package.specs.declared.Package.{Package}
@@ -41,8 +41,8 @@ wearFactor k direction = byForm (k .form) (pos 2 *ℤ sign direction) (cond (k .
 abbrev pub alongLength : Kind → ℤ → Bool
 alongLength k axis = byForm (k .form) (eqZ axis (pos 3)) false false
 
-abbrev pub wearBefore : Package → ℤ → Bool → ℤ
-wearBefore p tool length = cond length (wearOf p tool .length) (wearOf p tool .radius)
+abbrev pub wearBefore : Wear → Bool → ℤ
+wearBefore w length = cond length (w .length) (w .radius)
 
 unfoldable pub foundIn : Package → ToolMeasurement → Found
 foundIn p a =
@@ -56,6 +56,21 @@ foundIn p a =
 
 abbrev pub decisionOn : Memory → ToolMeasurement → ℤ → Decision
 decisionOn m a d = decided (a .limits) (not (eqZ (a .mv) (pos 0))) (pick (pos 0) (m .means) (a .mv)) (meanStep (pick (pos 0) (m .means) (a .mv)) d (weight a)) d
+
+-- what is found of the memory, the tool's wears and the probe
+unfoldable pub foundWith : Memory → Wear → Probe → ToolMeasurement → Found
+foundWith m w x a =
+    let k = toolKindOf a in
+    let ev = pick (pos 0) (m .empirical) (a .ev) in
+    let d = sizesOf x k (a .part) .measured -ℤ ev -ℤ a .part .setpoint in
+    let decision = decisionOn m a d in
+    record {
+      sizes = sizesOf x k (a .part);
+      ev = ev;
+      deviation = d;
+      decision = decision;
+      wear = wearBefore w (alongLength k (a .part .axis)) +ℤ wearFactor k (a .part .direction) *ℤ decision .correction;
+    }
 
 -- how large the numbers of a decision and of what was found are
 pub record DecisionSmall (d : Decision) : Type 0 where

@@ -4,7 +4,7 @@ use mathlib.Core.Bool.{Bool, true, false, cond, and-eq-true-iff}
 use mathlib.Core.List.{List}
 use Prim.Native.Nat.{ℕ, suc, _≤_, _<_}
 use native.Mathlib.Omega.{arith}
-use lib.IntN.{ℤ, pos, natAbs, _+ℤ_, _-ℤ_, _*ℤ_}
+use lib.IntN.{ℤ, pos, natAbs, _*ℤ_}
 use lib.ListN.{replicate}
 use lib.Signed.{_≤ℤ_, ltZ, mag}
 use mir.Syntax.{w16}
@@ -39,7 +39,7 @@ use Rattle.results.specs.Results.{recordRules, Small, entriesOf, refusedOutcome
 use Rattle.results.specs.declared.Outcome.{Outcome}
 use Rattle.results.specs.OutcomeLaws.{first-small, arguments-refused, records-refused, none-refused, between-size, number-size}
 use Rattle.results.specs.ResultLaws.{filled-append}
-use Rattle.tool_offset.specs.Tool.{ToolPassed, wearFactor, alongLength, wearBefore, decisionOn, foundIn, FoundSmall, testsOf, toolEntries, doneWith, toolAccepted, toolOutcome}
+use Rattle.tool_offset.specs.Tool.{ToolPassed, wearFactor, foundIn, foundWith, FoundSmall, testsOf, toolEntries, doneWith, toolAccepted, toolOutcome}
 use Rattle.tool_offset.specs.declared.Found.{Found}
 
 -- ---- the arguments
@@ -117,21 +117,8 @@ tool-small a f h t =
     (omega (arith, abs-add (a .part .setpoint) (z .tul), t .sizes .setpoint, tul), (omega (arith, abs-add (a .part .setpoint) (z .tll), t .sizes .setpoint, tll), (omega (arith, t .decision .correction), (omega (arith, between-size 0 1000000 (z .tzl) (l .chain .0, tzl)), (omega (arith, between-size 0 1000000 (z .tsa) (above-tsa, tsa)), (omega (arith, between-size 0 1000000 (z .tdif) (above-tdif, tdif)), (omega (arith, t .ev), (omega (arith, value-size (f .decision .mean) (t .decision .mean)), (omega (arith, tool), (omega (arith, number-size 1 1000 (a .k) (h .weight)), (omega (arith, number-size 0 20 (a .mv) (n .mv)), (omega (arith, number-size 0 20 (a .ev) (n .ev)), (omega (arith, tool), tt)))))))))))))
 
 -- ---- what is found is what `rules` says
-pub found-is : (p : Package) (a : ToolMeasurement) →
-    let x = probeOf p (a .part .probe) in
-    let k = toolKindOf a in
-    let d = sizesOf x k (a .part) .measured -ℤ empiricalOf p a -ℤ a .part .setpoint in
-    let decision = decisionOn (p .memory) a d in
-    _≡_ {A = Found}
-    (record {
-      sizes = sizesOf x k (a .part);
-      ev = empiricalOf p a;
-      deviation = d;
-      decision = decision;
-      wear = wearBefore p (a .tool) (alongLength k (a .part .axis)) +ℤ wearFactor k (a .part .direction) *ℤ decision .correction;
-    })
-    (foundIn p a)
-unfolding foundIn sizesOf deviation branch correction meanLeft newMean wearLeft
+pub found-is : (p : Package) (a : ToolMeasurement) → foundWith (p .memory) (wearOf p (a .tool)) (probeOf p (a .part .probe)) a ≡ foundIn p a
+unfolding foundWith foundIn sizesOf deviation branch correction meanLeft newMean wearLeft
 found-is p a = refl
 
 -- the tests of it are the rules of the records

@@ -14,7 +14,6 @@ use package::WEAR_LIMIT;
 use package::WEIGHT_LIMIT;
 use package::WRONG_LIMITS;
 use package::Wear;
-use probes::probe_of;
 use probes::sign_of;
 use results::Outcome;
 use results::Tests;
@@ -44,13 +43,13 @@ ghost use mathlib.Core.Bool.{true, cond};
 ghost use Prim.Native.Nat.{_≤_};
 ghost use lib.IntN.{pos, natAbs, _+ℤ_, _-ℤ_, _*ℤ_};
 ghost use Rattle.signed.specs.Ranges.{minus};
-ghost use Rattle.rules.specs.Stores.{pick, put, toolNumber, valueRange, wearRange, probeOf};
+ghost use Rattle.rules.specs.Stores.{pick, put, toolNumber, valueRange, wearRange};
 ghost use Rattle.rules.specs.Refusals.{first};
 ghost use Rattle.rules.specs.Sizes.{numbersOk};
 ghost use Rattle.rules.specs.Tool.{toolKindOf, namedOrNone, toolNumbers, toolArguments};
 ghost use Rattle.rules.specs.Results.{filled, array};
 ghost use Rattle.results.specs.Results.{Small, entriesOf};
-ghost use Rattle.tool_offset.specs.Tool.{ToolPassed, wearFactor, alongLength, wearBefore, decisionOn, DecisionSmall, foundIn, FoundSmall, testsOf, toolEntries, wearWith, doneWith, toolOutcome};
+ghost use Rattle.tool_offset.specs.Tool.{ToolPassed, wearFactor, alongLength, wearBefore, decisionOn, DecisionSmall, foundWith, FoundSmall, testsOf, toolEntries, wearWith, doneWith, toolOutcome};
 
 // What a measurement finds of the records: sizes, empirical value, deviation D, decision, and the wear that it would leave.
 pub struct Found {
@@ -151,12 +150,9 @@ fn on_length(k: Kind, axis: i64) -> bool
 }
 
 // The wear of a tool that is corrected, before it.
-fn wear_before(p: Package, tool: i64, length: bool) -> i64
-    requires { ⌜ toolNumber tool ≡ true ⌝ }
-    ensures { λ r. ⌜ (r ≡ wearBefore p tool length) × (natAbs r ≤ 2147483648) ⌝ }
+fn wear_before(w: Wear, length: bool) -> i64
+    ensures { λ r. ⌜ (r ≡ wearBefore w length) × (natAbs r ≤ 2147483648) ⌝ }
 {
-    let i = index(tool);
-    let w = p.tools[i];
     if length {
         return w.length as i64;
     }
@@ -191,20 +187,19 @@ fn decision_of(m: Memory, a: ToolMeasurement, d: i64) -> Decision
     decide(limits, !same(a.mv, 0), old, next, d)
 }
 
-// What a measurement whose arguments passed finds of the records; x is its probe, k its kind.
-fn found_of(p: Package, x: Probe, k: Kind, a: ToolMeasurement) -> Found
+// What a measurement whose arguments passed finds; w are its tool's wears, x is its probe, k its kind.
+fn found_of(memory: Memory, w: Wear, x: Probe, k: Kind, a: ToolMeasurement) -> Found
     requires { ⌜ ToolPassed a ⌝ }
-    requires { ⌜ (x ≡ probeOf p (a .part .probe)) × (k ≡ toolKindOf a) ⌝ }
-    ensures { λ r. ⌜ (r ≡ foundIn p a) × FoundSmall a r ⌝ }
+    requires { ⌜ k ≡ toolKindOf a ⌝ }
+    ensures { λ r. ⌜ (r ≡ foundWith memory w x a) × FoundSmall a r ⌝ }
 {
     let part = a.part;
-    let memory = p.memory;
     let empirical = memory.empirical;
     let sizes = sizes_of(x, k, part);
     let ev = value_at(empirical, a.ev);
     let deviation = deviation_of(sizes.measured, ev, part.setpoint);
     let decision = decision_of(memory, a, deviation);
-    let before = wear_before(p, a.tool, on_length(k, part.axis));
+    let before = wear_before(w, on_length(k, part.axis));
     let wear = grown_wear(before, factor_of(k, part.direction), decision.correction);
     Found {
         sizes,
@@ -308,8 +303,12 @@ pub fn tool_outcome(p: Package, a: ToolMeasurement) -> Outcome
     let part = a.part;
     let limits = a.limits;
     let k = kind_of(part.kind);
-    let x = probe_of(p, part.probe);
-    let f = found_of(p, x, k, a);
+    let i = index(part.probe);
+    let x = p.probes[i];
+    let j = index(a.tool);
+    let w = p.tools[j];
+    let memory = p.memory;
+    let f = found_of(memory, w, x, k, a);
     let refusal = records_refusal(tests_of(x, k, a, f));
     if refusal != DONE {
         return refused(p, refusal);
