@@ -1,7 +1,8 @@
 //! The area's numbers and the reference's records, each as the other.
 
 use mezhtolik::AREA;
-use reference::{Records, Wear};
+use reference::{Call, Records, Wear};
+use std::ops::Range;
 
 /// Where each store begins in the area.
 const EMPIRICAL: usize = 21;
@@ -54,6 +55,29 @@ pub fn records(area: &Area) -> Records {
         records.offsets[offset].copy_from_slice(&area[at..at + 3]);
     }
     records
+}
+
+/// The places of the numbers that a call writes when it is done.
+pub fn written(call: &Call) -> Vec<Range<usize>> {
+    let part = |start: usize, size: usize, number: i64| {
+        let at = start + size * (number as usize - 1);
+        at..at + size
+    };
+    match call {
+        Call::SetEmpirical { number, .. } => vec![part(EMPIRICAL, 1, *number)],
+        Call::SetWear { tool, .. } => vec![part(TOOLS, 2, *tool)],
+        Call::SetOffset { offset, .. } => vec![part(OFFSETS, 3, *offset)],
+        Call::Calibrate(calibration) => vec![part(0, 7, calibration.probe)],
+        Call::MeasureTool { measurement, .. } => {
+            let mean = (measurement.mv != 0).then(|| part(MEANS, 1, measurement.mv));
+            let tool = part(TOOLS, 2, measurement.tool);
+            mean.into_iter().chain([tool]).collect()
+        }
+        Call::MeasureZero { measurement, .. } => vec![part(OFFSETS, 3, measurement.offset)],
+        Call::Load { .. } => vec![part(EMPIRICAL, TOOLS - EMPIRICAL, 1)],
+        Call::RunJob { .. } => vec![part(0, AREA, 1)],
+        Call::Status { .. } | Call::Save { .. } => vec![],
+    }
 }
 
 /// What stands at a place of the area.

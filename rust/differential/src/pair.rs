@@ -48,13 +48,17 @@ impl Pair {
         Ok(reference)
     }
 
-    /// "A call that is done writes all of the area's numbers"; any other leaves
-    /// it, unless the reference has a fault.
+    /// A call that is done writes the numbers of the records that it changes,
+    /// any other leaves the area; a fault of the reference shows here too.
     fn follow(&mut self, call: &Call, answer: &Answer) {
-        let reads = matches!(call, Call::Status { .. } | Call::Save { .. });
-        let written = answer.refusal == 0 && !reads;
-        if written || layout::records(&self.area) != *self.reference.records() {
-            self.area = layout::numbers(self.reference.records());
+        let new = layout::numbers(self.reference.records());
+        if answer.refusal == 0 {
+            for places in layout::written(call) {
+                self.area[places.clone()].copy_from_slice(&new[places]);
+            }
+        }
+        if layout::records(&self.area) != *self.reference.records() {
+            self.area = new;
         }
     }
 
