@@ -3,3 +3,4 @@ pub mod AreaLaws
 pub mod LoopLaws
 pub mod Exports
 pub mod ExportLaws
+pub mod ReplacedLaws
