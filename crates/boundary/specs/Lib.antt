@@ -4,3 +4,4 @@ pub mod LoopLaws
 pub mod Exports
 pub mod ExportLaws
 pub mod ReplacedLaws
+pub mod RenewedLaws

@@ -1,15 +1,13 @@
 use mathlib.Core.Path.{_≡_}
 use mathlib.Core.Bool.{true}
 use native.Mathlib.Omega.{arith}
-use lib.IntN.{ℤ, pos}
 use mir.Facts.{toZ-ofZ}
-use Rattle.signed.specs.RangeLaws.{≤ℤ-trans, within-is, is-within}
-use Rattle.rules.specs.Stores.{valueNumber}
 use Rattle.rules.specs.Tool.{namedOrNone}
 use Rattle.rules.specs.Calls.{Call, setEmpirical, rules, refusal, answered}
 use Rattle.rules.specs.RefusalLaws.{all-passed}
 use Rattle.boundary.specs.Area.{unpacked}
 use Rattle.boundary.specs.Exports.{renewedBy}
+use Rattle.boundary.specs.RenewedLaws.{named}
 use Rattle.boundary.specs.ExportLaws.{wrong-call, passes, done-call, refused-call}
 use borrow.Author.Needs.{needs}
 use Rattle.boundary.proofs.mezhtolik_set_empirical.Statement.{statement}
@@ -35,11 +33,6 @@ answer : (c : tie.After-set-empirical) → let s = whole c .before in c .set-emp
 answer c =
     let s = whole c .before in
     rw (c .before .unpack .ensures, toZ-ofZ (s .fits .ev), toZ-ofZ (s .fits .value)) at (c .set-empirical .ensures)
-
-named : (n : ℤ) → valueNumber n ≡ true → namedOrNone n ≡ true
-named n e =
-    let b = within-is (pos 1) (pos 20) n e in
-    is-within (pos 0) (pos 20) n (≤ℤ-trans (pos 0) (pos 1) n (record { le = tt }) (b .0)) (b .1)
 
 number : (c : tie.Then2) → namedOrNone (whole (c .before .before) .before .args .ev) ≡ true
 unfolding refusal
