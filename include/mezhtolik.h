@@ -16,7 +16,8 @@
  * Any number is allowed as an argument, in the area and in a buffer: each gets a result or a refusal.
  *
  * A refusal is the first number that applies, 0 when done (MEZHTOLIK_DONE). A call that is refused leaves the area as it was, number for number.
- * A call that is done writes all of the area's numbers. What else a refusal leaves or writes stands at the call.
+ * A call that is done writes the numbers of the records that it changes and leaves every other number; mezhtolik_fresh and mezhtolik_run_job write
+ * all of them. What else a refusal leaves or writes stands at the call.
  */
 #ifndef MEZHTOLIK_H
 #define MEZHTOLIK_H
@@ -37,8 +38,9 @@ extern "C" {
  * Where each record stands in the area. All numbers count from 1, as in the calls: probe 1..3, ev and mv 1..20, tool 1..32, offset 1..4, axis 1..3
  * (abscissa, ordinate, applicate), place 1..6. The places of a probe's triggers: axis 1 negative 1, positive 2; axis 2: 3, 4; axis 3: 5, 6.
  *
- * A number that its record cannot hold is read as the nearest that it can: EV and MV -32768..32767, a status 0..255. Calls leave a trigger within
- * +-100000 u, a status in its six low bits (bit place - 1 for each direction calibrated), a wear within +-2000000 h and an offset within +-20000000 h.
+ * A number that its record cannot hold is read as the nearest that it can: EV and MV -32768..32767, a status 0..255. It stays in the area until a call
+ * writes its record. A number that a call changes is then in its range: a trigger within +-100000 u, a status in its six low bits (bit place - 1 for
+ * each direction calibrated), a wear within +-2000000 h and an offset within +-20000000 h.
  */
 #define MEZHTOLIK_TRIGGER(probe, place) (7 * ((probe) - 1) + (place) - 1)
 #define MEZHTOLIK_STATUS(probe) (7 * ((probe) - 1) + 6)

@@ -162,16 +162,52 @@ static void blocks(void)
     CHECK(mezhtolik_load(area, MEZHTOLIK_AREA, buffer, 80) == 0 && area[MEZHTOLIK_MV(20)] == -32768 && area[MEZHTOLIK_EV(20)] == -7);
 }
 
+/* Whether every number of the area is as before, save count numbers from place on. */
+static int only(size_t place, size_t count)
+{
+    return memcmp(room, room_before, (1 + place) * sizeof room[0]) == 0 &&
+           memcmp(area + place + count, room_before + 1 + place + count, (LENGTH(room) - 1 - place - count) * sizeof room[0]) == 0;
+}
+
+/* Numbers that their records cannot hold: a call that is done leaves those that it does not change, and a job writes what it reads. */
 static void any_content(void)
 {
+    static const uint8_t job[] = "E,2,5\n";
+    uint8_t output[MEZHTOLIK_LINE_ROOM];
+
     area[MEZHTOLIK_EV(1)] = 70000;
     area[MEZHTOLIK_MV(1)] = INT32_MIN;
     area[MEZHTOLIK_STATUS(1)] = -1;
     area[MEZHTOLIK_STATUS(3)] = 1000;
+    tool[MEZHTOLIK_ARG_KIND] = 0;
     remember();
     CHECK(mezhtolik_set_empirical(area, MEZHTOLIK_AREA, 0, 0) == 2 && area_left());
-    CHECK(mezhtolik_set_empirical(area, MEZHTOLIK_AREA, 2, 5) == 0);
+    CHECK(mezhtolik_set_empirical(area, MEZHTOLIK_AREA, 2, 5) == 0 && area[MEZHTOLIK_EV(2)] == 5 && only(MEZHTOLIK_EV(2), 1));
+    remember();
+    CHECK(mezhtolik_set_wear(area, MEZHTOLIK_AREA, 1, 6, 7) == 0 && only(MEZHTOLIK_RADIUS_WEAR(1), 2));
+    remember();
+    CHECK(mezhtolik_set_offset(area, MEZHTOLIK_AREA, 1, 8, 9, 10) == 0 && only(MEZHTOLIK_OFFSET(1, 1), 3));
+    remember();
+    CHECK(mezhtolik_calibrate(area, MEZHTOLIK_AREA, 2, 1, 0, 0, -50, 0, 50) == 0 && area[MEZHTOLIK_TRIGGER(2, 2)] == 50);
+    CHECK(area[MEZHTOLIK_STATUS(2)] == 18 && only(MEZHTOLIK_TRIGGER(2, 1), 7));
+    remember();
+    CHECK(decided(mezhtolik_measure_tool(area, MEZHTOLIK_AREA, tool, 21, results, LENGTH(results), 3), 0, 2, 1) && only(MEZHTOLIK_RADIUS_WEAR(32), 2));
+    remember();
+    CHECK(decided(mezhtolik_measure_zero(area, MEZHTOLIK_AREA, zero, 13, results, LENGTH(results), 3), 0, 6, 0) && only(MEZHTOLIK_OFFSET(4, 1), 3));
+
+    CHECK(mezhtolik_run_job(area, MEZHTOLIK_AREA, job, sizeof job - 1, output, sizeof output).refusal == 0);
     CHECK(area[MEZHTOLIK_EV(1)] == 32767 && area[MEZHTOLIK_MV(1)] == -32768 && area[MEZHTOLIK_STATUS(1)] == 0 && area[MEZHTOLIK_STATUS(3)] == 255);
+
+    /* The mean is read as the nearest, and a correction by it leaves 0. */
+    area[MEZHTOLIK_MV(1)] = INT32_MIN;
+    area[MEZHTOLIK_STATUS(1)] = -1;
+    remember();
+    tool[MEZHTOLIK_ARG_MV] = 1;
+    CHECK(decided(mezhtolik_measure_tool(area, MEZHTOLIK_AREA, tool, 21, results, LENGTH(results), 3), 0, 4, 1) && area[MEZHTOLIK_MV(1)] == 0);
+    area[MEZHTOLIK_MV(1)] = INT32_MIN;
+    CHECK(only(MEZHTOLIK_RADIUS_WEAR(32), 2));
+    remember();
+    CHECK(mezhtolik_load(area, MEZHTOLIK_AREA, buffer, 80) == 0 && only(MEZHTOLIK_EV(1), 40) && area[MEZHTOLIK_EV(1)] == 0 && area[MEZHTOLIK_MV(1)] == 0);
 }
 
 /* A calibration and a malformed line. */

@@ -103,7 +103,7 @@ byte-range n h = rw (le-leb 0 n (omega arith), le-leb n 255 (omega arith))
 status-back : (n : ℕ) → n < 256 → statusFrom (pos n) ≡ n
 status-back n h = ap natAbs (nearest-itself (pos 0) (pos 255) (pos n) (byte-range n h))
 
-probe-back : (x : Probe) → ProbeTyped x → Back probeFrom probeNumbers 7 x
+pub probe-back : (x : Probe) → ProbeTyped x → Back probeFrom probeNumbers 7 x
 probe-back x t =
     let n = t .triggers in
     record {
@@ -122,18 +122,18 @@ wear-back x = record { long = refl; same = refl }
 offset-back : (x : Offset) → OffsetTyped x → Back offsetFrom offsetNumbers 3 x
 offset-back x t = record { long = t .axes; same = refl }
 
-values-back : (zs : List ℤ) → Each (λ z. valueRange z ≡ true) zs → map valueFrom zs ≡ zs
+pub values-back : (zs : List ℤ) → Each (λ z. valueRange z ≡ true) zs → map valueFrom zs ≡ zs
 values-back [] h = refl
 values-back (z ∷ zs) h = rw (nearest-itself (minus 32768) (pos 32767) z (h .0), values-back zs (h .1))
 
 -- ---- a section after the numbers in front of it
-section-front : (zs rest : List ℤ) (n : ℕ) → length zs ≡ n → section 0 n (zs ++ rest) ≡ zs
+pub section-front : (zs rest : List ℤ) (n : ℕ) → length zs ≡ n → section 0 n (zs ++ rest) ≡ zs
 section-front zs rest n h = take-at zs rest n h
 
-section-past : (front rest : List ℤ) (a b n : ℕ) → length front ≡ a → section (a + b) n (front ++ rest) ≡ section b n rest
+pub section-past : (front rest : List ℤ) (a b n : ℕ) → length front ≡ a → section (a + b) n (front ++ rest) ≡ section b n rest
 section-past front rest a b n h = rw (← drop-drop b a (front ++ rest), drop-at front rest a h)
 
-together : (p : Package) {probes : List Probe} {empirical means : List ℤ} {tools : List Wear} {offsets : List Offset}
+pub together : (p : Package) {probes : List Probe} {empirical means : List ℤ} {tools : List Wear} {offsets : List Offset}
     → probes ≡ p .probes → empirical ≡ p .memory .empirical → means ≡ p .memory .means → tools ≡ p .tools → offsets ≡ p .offsets
     → record { probes = probes; memory = record { empirical = empirical; means = means }; tools = tools; offsets = offsets } ≡ p
 together p a b c d e = rw (a, b, c, d, e)

@@ -1,28 +1,23 @@
 -- An exported call whose area has not 137 numbers, and one whose area holds records: what it answers and leaves.
-use mathlib.Core.Path.{_≡_, refl}
-use mathlib.Core.Bool.{true, false, cond}
+use mathlib.Core.Path.{_≡_}
+use mathlib.Core.Bool.{true, false}
 use mathlib.Core.List.{List}
-use Prim.Native.Nat.{ℕ, zero, suc}
-use native.Mathlib.Omega.{arith}
-use lib.Dec.{eqb}
+use Prim.Native.Nat.{ℕ}
 use lib.IntN.{ℤ}
 use lib.ListN.{length}
 use borrow.Author.Tests.{ne-eqb, eq-eqb}
 use Rattle.package.specs.Fresh.{freshPackage}
 use Rattle.package.specs.declared.Answer.{Answer}
 use Rattle.package.specs.declared.Measured.{Measured}
-use Rattle.package.specs.declared.Package.{Package}
-use Rattle.rules.specs.InRange.{InRange}
 use Rattle.rules.specs.Block.{saved}
 use Rattle.rules.specs.Status.{statusRead}
-use Rattle.rules.specs.Calls.{Call, save, refusal, done, step, answered}
+use Rattle.rules.specs.Calls.{Call, save, refusal, step, answered}
 use Rattle.jobs.specs.Jobs.{jobRan, jobOutput}
 use Rattle.jobs.specs.declared.Ran.{Ran}
 use Rattle.boundary.specs.declared.Decision.{Decision}
 use Rattle.boundary.specs.declared.StatusBits.{StatusBits}
 use Rattle.boundary.specs.Area.{packed, unpacked}
-use Rattle.boundary.specs.AreaLaws.{packed-long, unpack-pack, in-range-typed}
-use Rattle.boundary.specs.Exports.{wholeArea, stored, left, called, freshCalled, statusBits, statusCalled, savedAs, saveCalled, reply, decided, undecided, replied, jobLeft, jobReply, jobCalled}
+use Rattle.boundary.specs.Exports.{wholeArea, renewedBy, renewed, stored, left, called, freshCalled, statusBits, statusCalled, savedAs, saveCalled, reply, decided, undecided, replied, jobLeft, jobReply, jobCalled}
 
 module _ (area : List ℤ) (wrong : length area ≡ 137 → ⊥) where
   not-whole : wholeArea area ≡ false
@@ -48,18 +43,27 @@ module _ (area : List ℤ) (wrong : length area ≡ 137 → ⊥) where
   unfolding jobCalled
   wrong-job job output = rw not-whole
 
-  pub wrong-reply : (numbers : List ℤ) (count : ℕ) (m : Measured) (after results : List ℤ) {r : Decision} → r ≡ undecided 100
-      → reply r area results ≡ replied area numbers count m after results
-  wrong-reply numbers count m after results e = rw (e, not-whole)
+  pub wrong-reply : (numbers : List ℤ) (count : ℕ) (c : Call) (m : Measured) (after results : List ℤ) {r : Decision} → r ≡ undecided 100
+      → reply r area results ≡ replied area numbers count c m after results
+  wrong-reply numbers count c m after results e = rw (e, not-whole)
 
 module _ (area : List ℤ) (right : length area ≡ 137) where
   whole : wholeArea area ≡ true
   whole = eq-eqb (length area) 137 right
 
-  pub right-call : (c : Call) {a : Answer} {r : ℕ} {after : List ℤ} → a ≡ answered (unpacked area) c
-      → (r ≡ a .refusal) × (after ≡ stored (a .refusal) (a .after) area) → left r after ≡ called area c
+  -- a call that is done, and one that is refused
+  pub passes : (c : Call) {a : Answer} → a ≡ answered (unpacked area) c → a .refusal ≡ 0 → refusal (unpacked area) c ≡ 0
+  unfolding answered
+  passes c e z = rw e at z
+
+  pub done-call : (c : Call) {a : Answer} {after : List ℤ} → a ≡ answered (unpacked area) c → a .refusal ≡ 0
+      → after ≡ renewedBy area (a .after) c → left (a .refusal) after ≡ called area c
+  unfolding called answered step renewed
+  done-call c e z h = rw (whole, h, e, passes c e z)
+
+  pub refused-call : (c : Call) {a : Answer} → a ≡ answered (unpacked area) c → (a .refusal ≡ 0 → ⊥) → left (a .refusal) area ≡ called area c
   unfolding called answered
-  right-call c e h = rw (whole, h .0, h .1, e)
+  refused-call c e n = rw (whole, e, ne-eqb (refusal (unpacked area) c) 0 (rw e at n))
 
   pub right-fresh : {after : List ℤ} → after ≡ packed freshPackage → left 0 after ≡ freshCalled area
   unfolding freshCalled
@@ -75,29 +79,25 @@ module _ (area : List ℤ) (right : length area ≡ 137) where
   right-save buffer h = rw (whole, h .0, h .1)
 
   pub right-job : (job output : List ℕ) {r : Ran} {left : List ℤ} {after : List ℕ}
-      → (r ≡ jobRan (unpacked area) job (length output)) × (after ≡ jobOutput (unpacked area) job output) → left ≡ stored (r .refusal) (r .after) area
+      → (r ≡ jobRan (unpacked area) job (length output)) × (after ≡ jobOutput (unpacked area) job output) → left ≡ stored (r .refusal) (packed (r .after)) area
       → jobLeft (jobReply r) left after ≡ jobCalled area job output
   unfolding jobCalled
   right-job job output e h = rw (h, e .0, e .1, whole)
 
   -- the arguments are not as many as they should be
-  pub wrong-arguments : (numbers : List ℤ) (count : ℕ) (m : Measured) (after results : List ℤ) {r : Decision}
-      → (length numbers ≡ count → ⊥) → r ≡ undecided 101
-      → reply r area results ≡ replied area numbers count m after results
-  wrong-arguments numbers count m after results n e = rw (e, whole, ne-eqb (length numbers) count n)
+  pub wrong-arguments : (numbers : List ℤ) (count : ℕ) (c : Call) (m : Measured) (after results : List ℤ) {r : Decision} → (length numbers ≡ count → ⊥)
+      → r ≡ undecided 101 → reply r area results ≡ replied area numbers count c m after results
+  wrong-arguments numbers count c m after results n e = rw (e, whole, ne-eqb (length numbers) count n)
 
-  pub right-reply : (numbers : List ℤ) (count : ℕ) (m : Measured) (after results : List ℤ) {found : Measured} {r : Decision} {left array : List ℤ}
-      → length numbers ≡ count → (found ≡ m) × (array ≡ after) → (r ≡ decided found) × (left ≡ stored (found .refusal) (found .after) area)
-      → reply r left array ≡ replied area numbers count m after results
-  right-reply numbers count m after results n e h = rw (h .0, h .1, e .0, e .1, whole, eq-eqb (length numbers) count n)
+  -- a measurement that is done, and one that is refused
+  module _ (numbers : List ℤ) (count : ℕ) (c : Call) (m : Measured) (after results : List ℤ) {found : Measured} {r : Decision} {array : List ℤ}
+      (n : length numbers ≡ count) (e : (found ≡ m) × (array ≡ after)) (d : r ≡ decided found) where
+    pub done-reply : m .refusal ≡ refusal (unpacked area) c → m .after ≡ step (unpacked area) c → found .refusal ≡ 0
+        → {new : List ℤ} → new ≡ renewedBy area (found .after) c → reply r new array ≡ replied area numbers count c m after results
+    unfolding step renewed
+    done-reply p q z h =
+        let k : refusal (unpacked area) c ≡ 0 = rw (e .0, p) at z in
+        rw (d, h, e .0, e .1, whole, eq-eqb (length numbers) count n, q, p, k)
 
--- a call on the area that holds records in range is the call on those records: its refusal, and the area of the package after it
-pub call-packed : (p : Package) → InRange p → (c : Call) → called (packed p) c ≡ left (refusal p c) (packed (step p c))
-unfolding called step
-call-packed p r c =
-    let t = in-range-typed p r in
-    rw (whole (packed p) (packed-long p t), unpack-pack p t) (go (refusal p c))
-  where
-    go : (n : ℕ) → left n (stored n (cond (eqb n 0) (done p c) p) (packed p)) ≡ left n (packed (cond (eqb n 0) (done p c) p))
-    go zero = refl
-    go (suc n) = rw (ne-eqb (suc n) 0 (λ q. omega arith))
+    pub refused-reply : (found .refusal ≡ 0 → ⊥) → reply r area array ≡ replied area numbers count c m after results
+    refused-reply z = rw (d, e .0, e .1, whole, eq-eqb (length numbers) count n, ne-eqb (m .refusal) 0 (rw (e .0) at z))

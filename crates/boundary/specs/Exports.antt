@@ -1,11 +1,11 @@
 -- The exported calls: each is the package's call on the records that the area holds. Beyond document 01's refusals, 100 is an area that has not 137
 -- numbers and 101 a measurement's arguments that are not as many as they should be; both leave every lent buffer and answer zeros.
 use mathlib.Core.Bool.{Bool, cond}
-use mathlib.Core.List.{List}
-use Prim.Native.Nat.{ℕ}
+use mathlib.Core.List.{List, [], _∷_, _++_}
+use Prim.Native.Nat.{ℕ, zero, suc, _+_, _*_}
 use lib.Dec.{eqb}
-use lib.IntN.{ℤ}
-use lib.ListN.{length}
+use lib.IntN.{ℤ, pos, negsuc}
+use lib.ListN.{length, take, drop}
 use Rattle.package.specs.Fresh.{freshPackage}
 use Rattle.package.specs.declared.Package.{Package}
 use Rattle.package.specs.declared.Calibration.{Calibration}
@@ -13,7 +13,8 @@ use Rattle.package.specs.declared.Measured.{Measured}
 use Rattle.package.specs.declared.Status.{Status}
 use Rattle.rules.specs.Block.{saved}
 use Rattle.rules.specs.Status.{statusRead}
-use Rattle.rules.specs.Calls.{Call, save, refusal, step}
+use Rattle.rules.specs.Stores.{pick, probeOf, wearOf, offsetOf}
+use Rattle.rules.specs.Calls.{Call, setEmpirical, setWear, setOffset, calibrate, readStatus, measureTool, measureZero, load, save, refusal, done}
 use Rattle.rules.specs.Measuring.{toolMeasured, toolArray, zeroMeasured, zeroArray}
 use Rattle.job_text.specs.Letters.{toolOf, zeroOf}
 use Rattle.jobs.specs.Jobs.{jobRan, jobOutput}
@@ -21,14 +22,54 @@ use Rattle.jobs.specs.declared.Ran.{Ran}
 use Rattle.boundary.specs.declared.Decision.{Decision}
 use Rattle.boundary.specs.declared.JobReply.{JobReply}
 use Rattle.boundary.specs.declared.StatusBits.{StatusBits}
-use Rattle.boundary.specs.Area.{areaLength, packed, unpacked}
+use Rattle.boundary.specs.Area.{probesAt, empiricalAt, meansAt, toolsAt, offsetsAt, areaLength, probeNumbers, wearNumbers, offsetNumbers, packed, unpacked}
 
 abbrev pub wholeArea : List ℤ → Bool
 wholeArea area = eqb (length area) areaLength
 
--- the area after a call with this refusal: a done one writes all of it, a refused one none
-abbrev pub stored : ℕ → Package → List ℤ → List ℤ
-stored n after area = cond (eqb n 0) (packed after) area
+-- ---- the area after a call that is done: just the numbers of the records that it changes are replaced
+
+-- numbers in place of as many from a place on
+abbrev pub replaced : List ℤ → ℕ → List ℤ → List ℤ
+replaced area place numbers = take place area ++ (numbers ++ drop (place + length numbers) area)
+
+-- the numbers of the record with a number, of a section of records of one size; the area where none has it
+abbrev pub replacedAt : List ℤ → (at size : ℕ) → ℤ → List ℤ → List ℤ
+replacedAt area at size (pos zero) numbers = area
+replacedAt area at size (pos (suc i)) numbers = replaced area (at + size * i) numbers
+replacedAt area at size (negsuc i) numbers = area
+
+-- one record as a store or a package has it
+abbrev pub valueRenewed : List ℤ → ℕ → List ℤ → ℤ → List ℤ
+valueRenewed area at values n = replacedAt area at 1 n (pick (pos 0) values n ∷ [])
+
+abbrev pub probeRenewed : List ℤ → Package → ℤ → List ℤ
+probeRenewed area p n = replacedAt area probesAt 7 n (probeNumbers (probeOf p n))
+
+abbrev pub toolRenewed : List ℤ → Package → ℤ → List ℤ
+toolRenewed area p n = replacedAt area toolsAt 2 n (wearNumbers (wearOf p n))
+
+abbrev pub offsetRenewed : List ℤ → Package → ℤ → List ℤ
+offsetRenewed area p n = replacedAt area offsetsAt 3 n (offsetNumbers (offsetOf p n))
+
+-- the records that a call changes, as a package has them
+unfoldable pub renewedBy : List ℤ → Package → Call → List ℤ
+renewedBy area p (setEmpirical ev value) = valueRenewed area empiricalAt (p .memory .empirical) ev
+renewedBy area p (setWear tool radius length) = toolRenewed area p tool
+renewedBy area p (setOffset offset v1 v2 v3) = offsetRenewed area p offset
+renewedBy area p (calibrate a) = probeRenewed area p (a .probe)
+renewedBy area p (readStatus probe) = area
+renewedBy area p (measureTool a array place) = toolRenewed (valueRenewed area meansAt (p .memory .means) (a .mv)) p (a .tool)
+renewedBy area p (measureZero a array place) = offsetRenewed area p (a .offset)
+renewedBy area p (load bytes) = replaced area empiricalAt (p .memory .empirical ++ p .memory .means)
+renewedBy area p (save buffer) = area
+
+unfoldable pub renewed : List ℤ → Call → List ℤ
+renewed area c = renewedBy area (done (unpacked area) c) c
+
+-- the area after a call with this refusal: the new one where it is done, the old one where it is refused
+abbrev pub stored : ℕ → List ℤ → List ℤ → List ℤ
+stored n new area = cond (eqb n 0) new area
 
 -- ---- settings, calibration, load, fresh: the refusal and the area after the call
 pub record Left : Type 0 where
@@ -41,7 +82,7 @@ left refusal area = record { refusal = refusal; area = area }
 unfoldable pub called : List ℤ → Call → Left
 called area c =
     let p = unpacked area in
-    cond (wholeArea area) (left (refusal p c) (stored (refusal p c) (step p c) area)) (left 100 area)
+    cond (wholeArea area) (left (refusal p c) (stored (refusal p c) (renewed area c) area)) (left 100 area)
 
 unfoldable pub freshCalled : List ℤ → Left
 freshCalled area = cond (wholeArea area) (left 0 (packed freshPackage)) (left 100 area)
@@ -85,23 +126,23 @@ abbrev pub undecided : ℕ → Decision
 undecided n = record { refusal = n; branch = 0; verdict = 0 }
 
 -- the reply of a measurement, where the area has 137 numbers and the arguments are as many as they should be
-abbrev pub replied : (area numbers : List ℤ) (count : ℕ) → Measured → (after results : List ℤ) → Reply
-replied area numbers count m after results =
+abbrev pub replied : (area numbers : List ℤ) (count : ℕ) → Call → Measured → (after results : List ℤ) → Reply
+replied area numbers count c m after results =
     cond (wholeArea area)
-    (cond (eqb (length numbers) count) (reply (decided m) (stored (m .refusal) (m .after) area) after) (reply (undecided 101) area results))
+    (cond (eqb (length numbers) count) (reply (decided m) (stored (m .refusal) (renewed area c) area) after) (reply (undecided 101) area results))
     (reply (undecided 100) area results)
 
 unfoldable pub toolCalled : (area numbers results : List ℤ) → ℕ → Reply
 toolCalled area numbers results place =
     let p = unpacked area in
     let a = toolOf numbers in
-    replied area numbers 21 (toolMeasured p a results place) (toolArray p a results place) results
+    replied area numbers 21 (measureTool a results place) (toolMeasured p a results place) (toolArray p a results place) results
 
 unfoldable pub zeroCalled : (area numbers results : List ℤ) → ℕ → Reply
 zeroCalled area numbers results place =
     let p = unpacked area in
     let a = zeroOf numbers in
-    replied area numbers 13 (zeroMeasured p a results place) (zeroArray p a results place) results
+    replied area numbers 13 (measureZero a results place) (zeroMeasured p a results place) (zeroArray p a results place) results
 
 -- ---- jobs: what one answers, and the area and the output after it
 pub record JobLeft : Type 0 where
@@ -118,4 +159,4 @@ jobReply r = record { refusal = r .refusal; length = r .length }
 unfoldable pub jobCalled : List ℤ → (job output : List ℕ) → JobLeft
 jobCalled area job output =
     let r = jobRan (unpacked area) job (length output) in
-    cond (wholeArea area) (jobLeft (jobReply r) (stored (r .refusal) (r .after) area) (jobOutput (unpacked area) job output)) (jobLeft (record { refusal = 100; length = 0 }) area output)
+    cond (wholeArea area) (jobLeft (jobReply r) (stored (r .refusal) (packed (r .after)) area) (jobOutput (unpacked area) job output)) (jobLeft (record { refusal = 100; length = 0 }) area output)

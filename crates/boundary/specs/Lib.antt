@@ -3,3 +3,5 @@ pub mod AreaLaws
 pub mod LoopLaws
 pub mod Exports
 pub mod ExportLaws
+pub mod ReplacedLaws
+pub mod RenewedLaws

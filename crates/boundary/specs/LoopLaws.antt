@@ -32,7 +32,7 @@ module _ {A : Type 0} (from : List ℤ → A) (size : ℕ) where
   store-length zero zs = refl
   store-length (suc count) zs = ap suc (store-length count (drop size zs))
 
-  store-at : (count : ℕ) (zs : List ℤ) (i : ℕ) (d : A) → i < count → getD (store from size count zs) i d ≡ from (take size (drop (size * i) zs))
+  pub store-at : (count : ℕ) (zs : List ℤ) (i : ℕ) (d : A) → i < count → getD (store from size count zs) i d ≡ from (take size (drop (size * i) zs))
   unfolding store
   store-at zero zs i d h = absurd (not-suc-le-zero h)
   store-at (suc count) zs zero d h = let e : size * 0 ≡ 0 = omega arith in rw e

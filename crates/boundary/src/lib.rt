@@ -2,29 +2,39 @@
 mod read;
 mod write;
 
+use crate::read::read_probe;
 use crate::read::unpack;
 use crate::write::pack;
+use crate::write::store_offset;
+use crate::write::store_tool;
+use crate::write::store_value;
+use crate::write::write_block;
+use crate::write::write_probe;
 use job_text::arguments::tool_of;
 use job_text::arguments::zero_of;
 use jobs::run_job;
 use measuring::measure_tool;
 use measuring::measure_zero;
-use package::Answer;
 use package::Calibration;
 use package::DONE;
 use package::Measured;
+use package::NO_ROOM;
+use package::NO_SUCH_NUMBER;
+use package::PROBES;
 use package::Package;
 use package::fresh;
-use probes::calibrate;
+use probes::calibrate_probe;
 use probes::probe_status;
-use records::load;
 use records::save;
 use records::set_empirical;
 use records::set_offset;
 use records::set_wear;
+use signed::in_range;
+use signed::index;
 ghost use mathlib.Core.Path.{_≡_};
 ghost use lib.ListN.{length};
 ghost use Rattle.rules.specs.Calls.{setEmpirical, setWear, setOffset, calibrate, load};
+ghost use Rattle.boundary.specs.Area.{packed};
 ghost use Rattle.boundary.specs.Exports.{stored, left, called, freshCalled, calibration, statusCalled, savedAs, saveCalled, reply, decided, undecided, toolCalled, zeroCalled, jobLeft, jobCalled};
 
 // Refusals of this crate alone: an area that has not 137 numbers; arguments that are not as many as a measurement's.
@@ -74,30 +84,17 @@ pub struct JobReply {
 // Writes a package to the area where the call that left it was done.
 fn store_done(after: Package, refusal: u32, area: &mut [i32])
     requires { ⌜ length (now area) ≡ 137 ⌝ }
-    ensures { λ _. ⌜ now (area .exit) ≡ stored refusal after (now (area .entry)) ⌝ }
+    ensures { λ _. ⌜ now (area .exit) ≡ stored refusal (packed after) (now (area .entry)) ⌝ }
 {
     if refusal == DONE {
         pack(after, area);
     }
 }
 
-// Hands back what a call answered.
-fn hand_back(a: Answer, area: &mut [i32]) -> u32
-    requires { ⌜ length (now area) ≡ 137 ⌝ }
-    ensures { λ r. ⌜ (r ≡ a .refusal) × (now (area .exit) ≡ stored (a .refusal) (a .after) (now (area .entry))) ⌝ }
+// What a measurement answered, for its caller.
+fn decision_of(m: Measured) -> Decision
+    ensures { λ r. ⌜ r ≡ decided m ⌝ }
 {
-    let after = a.after;
-    store_done(after, a.refusal, area);
-    a.refusal
-}
-
-// Hands back what a measurement answered.
-fn hand_over(m: Measured, area: &mut [i32]) -> Decision
-    requires { ⌜ length (now area) ≡ 137 ⌝ }
-    ensures { λ r. ⌜ (r ≡ decided m) × (now (area .exit) ≡ stored (m .refusal) (m .after) (now (area .entry))) ⌝ }
-{
-    let after = m.after;
-    store_done(after, m.refusal, area);
     Decision {
         refusal: m.refusal,
         branch: m.branch,
@@ -136,8 +133,14 @@ pub extern "C" fn mezhtolik_set_empirical(area: &mut [i32], ev: i64, value: i64)
     if area.len() != AREA {
         return WRONG_AREA;
     }
-    let p = unpack(&area[..]);
-    hand_back(set_empirical(p, ev, value), area)
+    let a = set_empirical(unpack(&area[..]), ev, value);
+    if a.refusal == DONE {
+        let after = a.after;
+        let memory = after.memory;
+        let empirical = memory.empirical;
+        store_value(empirical, ev, area, EMPIRICAL);
+    }
+    a.refusal
 }
 
 // Replaces one tool's two wears.
@@ -148,8 +151,11 @@ pub extern "C" fn mezhtolik_set_wear(area: &mut [i32], tool: i64, radius: i64, l
     if area.len() != AREA {
         return WRONG_AREA;
     }
-    let p = unpack(&area[..]);
-    hand_back(set_wear(p, tool, radius, length), area)
+    let a = set_wear(unpack(&area[..]), tool, radius, length);
+    if a.refusal == DONE {
+        store_tool(a.after, tool, area);
+    }
+    a.refusal
 }
 
 // Replaces one zero offset on its three axes.
@@ -166,8 +172,11 @@ pub extern "C" fn mezhtolik_set_offset(
     if area.len() != AREA {
         return WRONG_AREA;
     }
-    let p = unpack(&area[..]);
-    hand_back(set_offset(p, offset, v1, v2, v3), area)
+    let a = set_offset(unpack(&area[..]), offset, v1, v2, v3);
+    if a.refusal == DONE {
+        store_offset(a.after, offset, area);
+    }
+    a.refusal
 }
 
 // Calibrates one direction of a probe.
@@ -187,7 +196,9 @@ pub extern "C" fn mezhtolik_calibrate(
     if area.len() != AREA {
         return WRONG_AREA;
     }
-    let p = unpack(&area[..]);
+    if !in_range(probe, 1, PROBES) {
+        return NO_SUCH_NUMBER;
+    }
     let a = Calibration {
         probe,
         axis,
@@ -197,7 +208,12 @@ pub extern "C" fn mezhtolik_calibrate(
         tzl,
         tsa,
     };
-    hand_back(calibrate(p, a), area)
+    let at = 7 * index(probe);
+    let c = calibrate_probe(read_probe(&area[at..at + 7]), a);
+    if c.refusal == DONE {
+        write_probe(c.after, &mut area[at..at + 7]);
+    }
+    c.refusal
 }
 
 // The bits of a probe's status and the number of directions calibrated.
@@ -236,8 +252,17 @@ pub extern "C" fn mezhtolik_measure_tool(
     if numbers.len() != TOOL_NUMBERS {
         return not_made(WRONG_ARGUMENTS);
     }
-    let p = unpack(&area[..]);
-    hand_over(measure_tool(p, tool_of(numbers), results, place), area)
+    let a = tool_of(numbers);
+    let m = measure_tool(unpack(&area[..]), a, results, place);
+    if m.refusal != DONE {
+        return decision_of(m);
+    }
+    let after = m.after;
+    let memory = after.memory;
+    let means = memory.means;
+    store_value(means, a.mv, area, MEANS);
+    store_tool(after, a.tool, area);
+    decision_of(m)
 }
 
 // Measures with zero offset and writes the 42 numbers that begin at place.
@@ -256,8 +281,13 @@ pub extern "C" fn mezhtolik_measure_zero(
     if numbers.len() != ZERO_NUMBERS {
         return not_made(WRONG_ARGUMENTS);
     }
-    let p = unpack(&area[..]);
-    hand_over(measure_zero(p, zero_of(numbers), results, place), area)
+    let a = zero_of(numbers);
+    let m = measure_zero(unpack(&area[..]), a, results, place);
+    if m.refusal != DONE {
+        return decision_of(m);
+    }
+    store_offset(m.after, a.offset, area);
+    decision_of(m)
 }
 
 // Replaces all empirical and mean values by those of a block of 80 bytes.
@@ -268,8 +298,11 @@ pub extern "C" fn mezhtolik_load(area: &mut [i32], bytes: &[u8]) -> u32
     if area.len() != AREA {
         return WRONG_AREA;
     }
-    let p = unpack(&area[..]);
-    hand_back(load(p, bytes), area)
+    if bytes.len() != 80 {
+        return NO_ROOM;
+    }
+    write_block(bytes, &mut area[EMPIRICAL..TOOLS]);
+    DONE
 }
 
 // Writes the block of all empirical and mean values to the first 80 bytes of the buffer.

@@ -46,7 +46,7 @@ fn read_values(part: &[i32]) -> [i16; 20]
 }
 
 // The probe of 7 numbers.
-fn read_probe(part: &[i32]) -> Probe
+pub fn read_probe(part: &[i32]) -> Probe
     requires { ⌜ length (now part) ≡ 7 ⌝ }
     ensures { λ r. ⌜ r ≡ probeFrom (now (part .entry)) ⌝ }
 {

@@ -8,10 +8,18 @@ use package::Offset;
 use package::Package;
 use package::Probe;
 use package::Wear;
+use records::decode;
+use signed::index;
 ghost use mathlib.Core.Path.{_≡_};
+ghost use mathlib.Core.Bool.{true};
 ghost use mathlib.Core.List.{flatMap};
+ghost use Prim.Native.Nat.{_≤_, _+_};
 ghost use lib.ListN.{length};
+ghost use Rattle.rules.specs.Block.{words};
+ghost use Rattle.rules.specs.Stores.{toolNumber, offsetNumber};
+ghost use Rattle.rules.specs.Tool.{namedOrNone};
 ghost use Rattle.boundary.specs.Area.{probeNumbers, wearNumbers, offsetNumbers, packed};
+ghost use Rattle.boundary.specs.Exports.{valueRenewed, toolRenewed, offsetRenewed};
 
 // Copies numbers to a part as long as they are.
 fn copy_numbers(numbers: &[i32], part: &mut [i32])
@@ -27,7 +35,7 @@ fn copy_numbers(numbers: &[i32], part: &mut [i32])
 }
 
 // Writes a probe's 7 numbers.
-fn write_probe(x: Probe, part: &mut [i32])
+pub fn write_probe(x: Probe, part: &mut [i32])
     requires { ⌜ length (now part) ≡ 7 ⌝ }
     ensures { λ _. ⌜ now (part .exit) ≡ probeNumbers x ⌝ }
 {
@@ -127,4 +135,54 @@ pub fn pack(p: Package, area: &mut [i32])
     write_values(means, &mut area[MEANS..TOOLS]);
     write_tools(tools, &mut area[TOOLS..OFFSETS]);
     write_offsets(offsets, &mut area[OFFSETS..AREA]);
+}
+
+// Writes one of 20 values to the section that starts at a place; number 0 names none.
+pub fn store_value(values: [i16; 20], n: i64, area: &mut [i32], at: usize)
+    requires { ⌜ at + 20 ≤ length (now area) ⌝ }
+    requires { ⌜ namedOrNone n ≡ true ⌝ }
+    ensures { λ _. ⌜ now (area .exit) ≡ valueRenewed (now (area .entry)) at values n ⌝ }
+{
+    if n != 0 {
+        let i = index(n);
+        let v = values[i];
+        area[at + i] = v as i32;
+    }
+}
+
+// Writes one tool's wears to an area.
+pub fn store_tool(p: Package, tool: i64, area: &mut [i32])
+    requires { ⌜ length (now area) ≡ 137 ⌝ }
+    requires { ⌜ toolNumber tool ≡ true ⌝ }
+    ensures { λ _. ⌜ now (area .exit) ≡ toolRenewed (now (area .entry)) p tool ⌝ }
+{
+    let i = index(tool);
+    let at = TOOLS + 2 * i;
+    let x = p.tools[i];
+    write_wear(x, &mut area[at..at + 2]);
+}
+
+// Writes one zero offset to an area.
+pub fn store_offset(p: Package, offset: i64, area: &mut [i32])
+    requires { ⌜ length (now area) ≡ 137 ⌝ }
+    requires { ⌜ offsetNumber offset ≡ true ⌝ }
+    ensures { λ _. ⌜ now (area .exit) ≡ offsetRenewed (now (area .entry)) p offset ⌝ }
+{
+    let i = index(offset);
+    let at = OFFSETS + 3 * i;
+    let x = p.offsets[i];
+    write_offset(x, &mut area[at..at + 3]);
+}
+
+// Writes the 40 values of a block of 80 bytes.
+pub fn write_block(bytes: &[u8], part: &mut [i32])
+    requires { ⌜ (length (now bytes) ≡ 80) × (length (now part) ≡ 40) ⌝ }
+    ensures { λ _. ⌜ now (part .exit) ≡ words (now (bytes .entry)) ⌝ }
+{
+    let mut i: usize = 0;
+    while i < 40 {
+        let v = decode(bytes[2 * i], bytes[2 * i + 1]);
+        part[i] = v as i32;
+        i += 1;
+    }
 }

@@ -114,8 +114,8 @@ pub fn set_offset(p: Package, offset: i64, v1: i64, v2: i64, v3: i64) -> Answer
     }
 }
 
-// The value of two bytes, low byte first, two's complement.
-fn decode(lo: u8, hi: u8) -> i16
+// The value of two bytes, low byte first, two's complement. No call of a user.
+pub fn decode(lo: u8, hi: u8) -> i16
     ensures { λ r. ⌜ r ≡ word lo hi ⌝ }
 {
     let v = (lo as u32) + 256 * (hi as u32);

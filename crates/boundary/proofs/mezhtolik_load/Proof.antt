@@ -1,6 +1,18 @@
-use Rattle.rules.specs.Calls.{load}
-use Rattle.boundary.specs.ExportLaws.{wrong-call, right-call}
+use mathlib.Core.Path.{_≡_, refl, sym, ap, _∙_}
+use mathlib.Core.List.{List, [], _∷_, _++_}
+use Prim.Native.Nat.{ℕ, zero, suc, _*_}
+use native.Mathlib.Omega.{arith}
+use lib.IntN.{ℤ}
+use lib.ListN.{length, take, drop, length-take, take-append-drop}
 use borrow.Author.Needs.{needs}
+use borrow.Author.Tests.{ne-eqb, eq-eqb}
+use Rattle.rules.specs.Block.{words}
+use Rattle.rules.specs.Calls.{load, refusal}
+use Rattle.rules.specs.CallLaws.{refused, accepted}
+use Rattle.boundary.specs.Area.{unpacked}
+use Rattle.boundary.specs.Exports.{replaced, renewedBy}
+use Rattle.boundary.specs.ExportLaws.{wrong-call, done-call, refused-call}
+use Rattle.boundary.specs.ReplacedLaws.{put-replaced}
 use Rattle.boundary.proofs.mezhtolik_load.Statement.{statement}
 use Rattle.boundary.proofs.mezhtolik_load.Tie as tie
 
@@ -9,28 +21,66 @@ returns c =
     let s = c .before .before in
     wrong-call (s .args .area .now) (c .if1 .taken) (load (s .args .bytes .now))
 
-unpack-requires : tie.Need-unpack-requires
-unpack-requires c κs = search needs
+returns-2 : tie.Need-returns-2
+unfolding refusal
+returns-2 c =
+    let e = c .before in
+    let s = e .before .before in
+    let p = unpacked (s .args .area .now) in
+    refused-call (s .args .area .now) (e .if1 .left) (load (s .args .bytes .now)) {a = record { after = p; refusal = 1 }}
+    (sym (refused p (load (s .args .bytes .now)) 0 (rw (ne-eqb _ 80 (c .if2 .taken))))) (λ q. omega (arith, q))
 
-load-requires : tie.Need-load-requires
-load-requires c κs = search needs
+sub-write-block : tie.Need-sub-write-block
+sub-write-block c = search needs
 
-hand-back-requires : tie.Need-hand-back-requires
-hand-back-requires c κs = search needs
+part-write-block-start : tie.Need-part-write-block-start
+part-write-block-start c = search needs
+
+part-write-block-end : tie.Need-part-write-block-end
+part-write-block-end c = search needs
+
+write-block-requires : tie.Need-write-block-requires
+write-block-requires c κs = search needs
 
 same-length : tie.Need-same-length
 same-length c = search needs
 
-returns-2 : tie.Need-returns-2
-returns-2 c =
-    let h = c .before in
-    let a = h .before .before in
-    let u = a .before in
-    let e = u .before .before in
-    let s = e .before .before in
-    right-call (s .args .area .now) (e .if1 .left) (load (s .args .bytes .now)) (rw (u .unpack .ensures) at (a .load .ensures)) (h .hand-back .ensures)
+-- the values of the two halves of a block
+words-append : (n : ℕ) (xs ys : List ℕ) → length xs ≡ 2 * n → words (xs ++ ys) ≡ words xs ++ words ys
+unfolding words
+words-append zero [] ys e = refl
+words-append zero (a ∷ []) ys e = absurd (omega arith)
+words-append zero (a ∷ b ∷ xs) ys e = absurd (omega arith)
+words-append (suc n) [] ys e = absurd (omega arith)
+words-append (suc n) (a ∷ []) ys e = absurd (omega arith)
+words-append (suc n) (a ∷ b ∷ xs) ys e = rw (words-append n xs ys (omega arith))
+
+halves : (bytes : List ℕ) → length bytes ≡ 80 → words bytes ≡ words (take 40 bytes) ++ words (drop 40 bytes)
+halves bytes n = ap words (sym (take-append-drop 40 bytes)) ∙ words-append 20 (take 40 bytes) (drop 40 bytes) (simp length-take (omega arith))
+
+returns-3 : tie.Need-returns-3
+unfolding refusal renewedBy
+returns-3 c =
+    let w = c .before in
+    let e = w .before .before in
+    let s = e .before .before .before in
+    let zs = s .args .area .now in
+    let bytes = s .args .bytes .now in
+    let values = w .write-block .last .1 .0 in
+    let long = w .write-block .kept .1 .0 ∙ write-block-requires (w .before) (s .κs) .1 in
+    done-call zs (e .before .if1 .left) (load bytes)
+    (sym (accepted (unpacked zs) (load bytes) (rw (eq-eqb (length bytes) 80 (e .if2 .left))))) refl
+    (put-replaced zs values 21 40 long ∙ ap (λ (ys : List ℤ). replaced zs 21 ys) (w .write-block .ensures ∙ halves bytes (e .if2 .left)))
 
 pub mezhtolik-load-spec : {M : Type 1} → statement M
 mezhtolik-load-spec =
     tie.close
-    (tie.spec returns unpack-requires load-requires hand-back-requires same-length returns-2)
+    (tie.spec
+    returns
+    returns-2
+    sub-write-block
+    part-write-block-start
+    part-write-block-end
+    write-block-requires
+    same-length
+    returns-3)
