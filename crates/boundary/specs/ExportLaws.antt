@@ -11,7 +11,8 @@ use Rattle.package.specs.declared.Answer.{Answer}
 use Rattle.package.specs.declared.Measured.{Measured}
 use Rattle.rules.specs.Block.{saved}
 use Rattle.rules.specs.Status.{statusRead}
-use Rattle.rules.specs.Calls.{Call, save, refusal, step, answered}
+use Rattle.rules.specs.RefusalLaws.{Numbered, Passed, all-passed}
+use Rattle.rules.specs.Calls.{Call, save, rules, refusal, step, answered}
 use Rattle.jobs.specs.Jobs.{jobRan, jobOutput}
 use Rattle.jobs.specs.declared.Ran.{Ran}
 use Rattle.boundary.specs.declared.Decision.{Decision}
@@ -51,15 +52,19 @@ module _ (area : List ℤ) (right : length area ≡ 137) where
   whole : wholeArea area ≡ true
   whole = eq-eqb (length area) 137 right
 
-  -- a call that is done, and one that is refused
-  pub passes : (c : Call) {a : Answer} → a ≡ answered (unpacked area) c → a .refusal ≡ 0 → refusal (unpacked area) c ≡ 0
+  -- a call that is done, where every rule passed, and one that is refused
+  none-refuses : (c : Call) {a : Answer} → a ≡ answered (unpacked area) c → a .refusal ≡ 0 → refusal (unpacked area) c ≡ 0
   unfolding answered
-  passes c e z = rw e at z
+  none-refuses c e z = rw e at z
+
+  pub passes : (c : Call) {a : Answer} → Numbered (rules (unpacked area) c) → a ≡ answered (unpacked area) c → a .refusal ≡ 0 → Passed (rules (unpacked area) c)
+  unfolding refusal
+  passes c n e z = all-passed (rules (unpacked area) c) n (none-refuses c e z)
 
   pub done-call : (c : Call) {a : Answer} {after : List ℤ} → a ≡ answered (unpacked area) c → a .refusal ≡ 0
       → after ≡ renewedBy area (a .after) c → left (a .refusal) after ≡ called area c
   unfolding called answered step renewed
-  done-call c e z h = rw (whole, h, e, passes c e z)
+  done-call c e z h = rw (whole, h, e, none-refuses c e z)
 
   pub refused-call : (c : Call) {a : Answer} → a ≡ answered (unpacked area) c → (a .refusal ≡ 0 → ⊥) → left (a .refusal) area ≡ called area c
   unfolding called answered

@@ -3,8 +3,7 @@ use mathlib.Core.Bool.{true}
 use native.Mathlib.Omega.{arith}
 use mir.Facts.{toZ-ofZ}
 use Rattle.rules.specs.Tool.{namedOrNone}
-use Rattle.rules.specs.Calls.{Call, setEmpirical, rules, refusal, answered}
-use Rattle.rules.specs.RefusalLaws.{all-passed}
+use Rattle.rules.specs.Calls.{Call, setEmpirical, answered}
 use Rattle.boundary.specs.Area.{unpacked}
 use Rattle.boundary.specs.Exports.{renewedBy}
 use Rattle.boundary.specs.RenewedLaws.{named}
@@ -35,12 +34,10 @@ answer c =
     rw (c .before .unpack .ensures, toZ-ofZ (s .fits .ev), toZ-ofZ (s .fits .value)) at (c .set-empirical .ensures)
 
 number : (c : tie.Then2) → namedOrNone (whole (c .before .before) .before .args .ev) ≡ true
-unfolding refusal
 number c =
     let w = whole (c .before .before) in
     let s = w .before in
-    named (s .args .ev)
-    (all-passed (rules (unpacked (s .args .area .now)) (call s)) tt (passes (s .args .area .now) (w .if1 .left) (call s) (answer (c .before .before)) (c .if2 .taken)) .0)
+    named (s .args .ev) (passes (s .args .area .now) (w .if1 .left) (call s) tt (answer (c .before .before)) (c .if2 .taken) .0)
 
 abbrev done : tie.After-store-value-arg → tie.Then2
 done c = c .before .before .before .before

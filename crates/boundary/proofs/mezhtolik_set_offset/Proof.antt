@@ -2,8 +2,7 @@ use mathlib.Core.Path.{_≡_}
 use mathlib.Core.Bool.{true}
 use mir.Facts.{toZ-ofZ}
 use Rattle.rules.specs.Stores.{offsetNumber}
-use Rattle.rules.specs.Calls.{Call, setOffset, rules, refusal, answered}
-use Rattle.rules.specs.RefusalLaws.{all-passed}
+use Rattle.rules.specs.Calls.{Call, setOffset, answered}
 use Rattle.boundary.specs.Area.{unpacked}
 use Rattle.boundary.specs.Exports.{renewedBy}
 use Rattle.boundary.specs.ExportLaws.{wrong-call, passes, done-call, refused-call}
@@ -33,11 +32,10 @@ answer c =
     rw (c .before .unpack .ensures, toZ-ofZ (s .fits .offset), toZ-ofZ (s .fits .v1), toZ-ofZ (s .fits .v2), toZ-ofZ (s .fits .v3)) at (c .set-offset .ensures)
 
 number : (c : tie.Then2) → offsetNumber (whole (c .before .before) .before .args .offset) ≡ true
-unfolding refusal
 number c =
     let w = whole (c .before .before) in
     let s = w .before in
-    all-passed (rules (unpacked (s .args .area .now)) (call s)) tt (passes (s .args .area .now) (w .if1 .left) (call s) (answer (c .before .before)) (c .if2 .taken)) .0
+    passes (s .args .area .now) (w .if1 .left) (call s) tt (answer (c .before .before)) (c .if2 .taken) .0
 
 store-offset-requires : tie.Need-store-offset-requires
 store-offset-requires c κs =
