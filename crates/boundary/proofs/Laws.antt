@@ -8,7 +8,7 @@ use mir.Syntax.{w16, w32, w64}
 use mir.Val.{SFits, toZ, ofZ}
 use mir.Facts.{toZ-ofZ, sfits-widen}
 use Rattle.signed.specs.Ranges.{within, nearestIn}
-use Rattle.boundary.specs.AreaLaws.{nearest-within}
+use Rattle.signed.specs.RangeLaws.{nearest-within}
 
 -- a number of the area as i64, and the nearest to it of a range
 module _ {v : ℤ} (f : SFits w32 v) where

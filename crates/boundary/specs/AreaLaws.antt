@@ -1,17 +1,16 @@
--- Laws of the area: a number that is read as the nearest of a range, and records that are packed and unpacked.
+-- Laws of the area: records that are packed and unpacked.
 use mathlib.Core.Path.{_≡_, refl, ap, _∙_}
-use mathlib.Core.Bool.{Bool, true, false, not, cond, _&&_}
+use mathlib.Core.Bool.{true}
 use mathlib.Core.List.{List, [], _∷_, _++_, append-assoc, map, flatMap}
 use Prim.Native.Nat.{ℕ, suc, _+_, _*_, _<_}
 use native.Mathlib.Omega.{arith}
 use lib.IntN.{ℤ, pos, natAbs}
 use lib.ListN.{length, length-append}
 use lib.Seq.{take-at, drop-at, getD-at, take-all, drop-drop}
-use lib.Signed.{ltZ}
 use borrow.Author.Tests.{le-leb}
-use Rattle.signed.specs.Ranges.{minus, within, nearestIn}
-use Rattle.signed.specs.RangeLaws.{true-T, leZ-not}
-use Rattle.lists.specs.Each.{Each}
+use Rattle.signed.specs.Ranges.{minus, within}
+use Rattle.signed.specs.RangeLaws.{nearest-itself}
+use Rattle.lists.specs.Each.{Each, each-so, each-all}
 use Rattle.package.specs.declared.Package.{Package}
 use Rattle.package.specs.declared.Probe.{Probe}
 use Rattle.package.specs.declared.Wear.{Wear}
@@ -21,26 +20,6 @@ use Rattle.rules.specs.StoreLaws.{Store}
 use Rattle.rules.specs.BlockLaws.{Values}
 use Rattle.rules.specs.InRange.{ProbeInRange, OffsetInRange, InRange}
 use Rattle.boundary.specs.Area.{probeNumbers, wearNumbers, offsetNumbers, packed, valueFrom, statusFrom, probeFrom, wearFrom, offsetFrom, store, section, unpacked}
-
--- ---- the nearest number of a range is of the range, and it is the number itself where that is of the range
-module _ (lo hi z : ℤ) where
-  pub nearest-within : within lo hi lo ≡ true → within lo hi hi ≡ true → within lo hi (nearestIn lo hi z) ≡ true
-  unfolding nearestIn
-  nearest-within l h = go (ltZ z lo) (ltZ hi z) refl refl
-    where
-      go : (low high : Bool) → ltZ z lo ≡ low → ltZ hi z ≡ high → within lo hi (cond low lo (cond high hi z)) ≡ true
-      go true high p q = l
-      go false true p q = h
-      go false false p q = rw (leZ-not z lo, leZ-not hi z, p, q)
-
-  pub nearest-itself : within lo hi z ≡ true → nearestIn lo hi z ≡ z
-  unfolding nearestIn
-  nearest-itself e = go (ltZ z lo) (ltZ hi z) (rw (leZ-not z lo, leZ-not hi z) at e)
-    where
-      go : (low high : Bool) → (not low && not high) ≡ true → cond low lo (cond high hi z) ≡ z
-      go true high e = absurd (true-T e)
-      go false true e = absurd (true-T e)
-      go false false e = refl
 
 -- ---- records of their types: stores of their lengths, values of 16 bits, statuses of 8 bits. Nothing is asked of triggers, wears and offsets, which
 -- the area holds as they are.
@@ -88,14 +67,6 @@ module _ {A : Type 0} (from : List ℤ → A) (numbers : A → List ℤ) (size :
 
   flat-long : (xs : List A) (n : ℕ) → length xs ≡ n → Each Back xs → length (flatMap numbers xs) ≡ size * n
   flat-long xs n e h = flat-length xs h ∙ rw e
-
-each-so : {A : Type 0} {P Q : A → Type 0} → ((x : A) → P x → Q x) → (xs : List A) → Each P xs → Each Q xs
-each-so f [] h = tt
-each-so f (x ∷ xs) h = (f x (h .0), each-so f xs (h .1))
-
-each-all : {A : Type 0} {P : A → Type 0} → ((x : A) → P x) → (xs : List A) → Each P xs
-each-all f [] = tt
-each-all f (x ∷ xs) = (f x, each-all f xs)
 
 byte-range : (n : ℕ) → n < 256 → within (pos 0) (pos 255) (pos n) ≡ true
 byte-range n h = rw (le-leb 0 n (omega arith), le-leb n 255 (omega arith))

@@ -11,7 +11,7 @@ use lib.Seq.{getD-set-same, length-take-le}
 use lib.Signed.{ltZ}
 use borrow.Author.Tests.{ne-eqb, eq-eqb, eqb-true}
 use Rattle.signed.specs.Ranges.{minus, within, size}
-use Rattle.signed.specs.RangeLaws.{true-T, ≤ℤ-trans, within-is, is-within, below-top}
+use Rattle.signed.specs.RangeLaws.{true-T, ≤ℤ-trans, within-is, is-within, below-top, nearest-within, nearest-itself}
 use Rattle.lists.specs.Each.{Each, each-take, each-drop}
 use Rattle.package.specs.declared.Package.{Package}
 use Rattle.package.specs.declared.Probe.{Probe}
@@ -33,7 +33,7 @@ use Rattle.rules.specs.InRange.{InRange, LentBytes}
 use Rattle.rules.specs.InRangeKept.{left-in-range, at-most}
 use Rattle.rules.specs.Calls.{Call, setEmpirical, setWear, setOffset, calibrate, readStatus, measureTool, measureZero, load, save, rules, refusal, done, step}
 use Rattle.boundary.specs.Area.{probesAt, empiricalAt, meansAt, toolsAt, offsetsAt, probeNumbers, wearNumbers, offsetNumbers, packed, valueFrom, probeFrom, wearFrom, offsetFrom, store, section, unpacked}
-use Rattle.boundary.specs.AreaLaws.{nearest-within, nearest-itself, ProbeTyped, OffsetTyped, Back, probe-back, values-back, section-front, section-past, together, packed-long, unpack-pack, in-range-typed}
+use Rattle.boundary.specs.AreaLaws.{ProbeTyped, OffsetTyped, Back, probe-back, values-back, section-front, section-past, together, packed-long, unpack-pack, in-range-typed}
 use Rattle.boundary.specs.LoopLaws.{store-length}
 use Rattle.boundary.specs.Exports.{replaced, replacedAt, valueRenewed, toolRenewed, offsetRenewed, renewedBy, renewed, called}
 use Rattle.boundary.specs.ReplacedLaws.{length-replaced, section-before, section-after, section-within, map-replaced, grows, store-replaced, probe-at}
