@@ -22,7 +22,7 @@ ghost use mathlib.Core.Path.{_≡_};
 ghost use mathlib.Core.Bool.{true};
 ghost use Prim.Native.Nat.{_≤_, _%_};
 ghost use Rattle.signed.specs.Ranges.{size};
-ghost use Rattle.rules.specs.Stores.{probeNumber, axisNumber, directionNumber, triggerRange, probeOf};
+ghost use Rattle.rules.specs.Stores.{axisNumber, directionNumber, triggerRange};
 ghost use Rattle.rules.specs.Refusals.{first};
 ghost use Rattle.rules.specs.Probes.{sign, placeOf, triggerOf, calibratedIn, mark};
 ghost use Rattle.rules.specs.Calibration.{newTrigger, change, calibrationArguments, calibrationNumbers, calibrationPositions, calibrationLimits, calibratedProbe};
@@ -41,15 +41,6 @@ pub fn place_of(axis: i64, direction: i64) -> usize
     let i = index(axis);
     let d = direction as usize;
     PLACES[2 * i + d]
-}
-
-// The probe with a number 1..3. No call of a user.
-pub fn probe_of(p: Package, n: i64) -> Probe
-    requires { ⌜ probeNumber n ≡ true ⌝ }
-    ensures { λ r. ⌜ r ≡ probeOf p n ⌝ }
-{
-    let i = index(n);
-    p.probes[i]
 }
 
 // A probe's trigger on an axis 1..3 in a direction 0 or 1. No call of a user.

@@ -9,6 +9,7 @@ use Rattle.signed.specs.Ranges.{within, size, eqZ}
 use Rattle.package.specs.declared.Package.{Package}
 use Rattle.package.specs.declared.Kind.{Kind}
 use Rattle.package.specs.declared.Offset.{Offset}
+use Rattle.package.specs.declared.Probe.{Probe}
 use Rattle.package.specs.declared.Probing.{Probing}
 use Rattle.package.specs.declared.ZeroMeasurement.{ZeroMeasurement}
 use Rattle.rules.specs.Stores.{pick, offsetRange, offsetOf, withOffset}
@@ -16,7 +17,7 @@ use Rattle.rules.specs.Kinds.{byForm}
 use Rattle.rules.specs.Sizes.{positionsOk, calibratedOk, pairsOk}
 use Rattle.rules.specs.Zero.{zeroKindOf, probeIn, growth, eachCorrected, axisLeft, zeroNumbers, zeroArguments, zeroRecords, zeroDone}
 use Rattle.rules.specs.Results.{ovr, ovi, filled, array, zeroResults}
-use Rattle.sizes.specs.Sizes.{sizesOf}
+use Rattle.sizes.specs.Sizes.{sizesOf, widthsOk}
 use Rattle.sizes.specs.declared.Sizes.{Sizes}
 use Rattle.results.specs.Results.{entriesOf, outcomeOf}
 use Rattle.results.specs.declared.Outcome.{Outcome}
@@ -74,12 +75,26 @@ leftFrom o g =
       third = pick (pos 0) (o .axes) (pos 3) +ℤ g .third .by;
     }
 
--- ---- what is found of the records
-unfoldable pub shiftedIn : Package → ZeroMeasurement → Shifted
-shiftedIn p a =
-    let sizes = sizesOf (probeIn p a) (zeroKindOf a) (a .part) in
+-- ---- what is found of the probe and the offset
+unfoldable pub shiftedWith : Probe → Offset → ZeroMeasurement → Shifted
+shiftedWith x o a =
+    let sizes = sizesOf x (zeroKindOf a) (a .part) in
     let growths = growthsFrom (zeroKindOf a) (a .part) sizes in
-    record { sizes = sizes; growths = growths; axes = leftFrom (offsetOf p (a .offset)) growths }
+    record { sizes = sizes; growths = growths; axes = leftFrom o growths }
+
+abbrev pub shiftedIn : Package → ZeroMeasurement → Shifted
+shiftedIn p a = shiftedWith (probeIn p a) (offsetOf p (a .offset)) a
+
+-- the tests of the records, of what was found
+abbrev pub testsOf : Probe → Kind → ZeroMeasurement → Shifted → Tests
+testsOf x k a s =
+    record {
+      calibrated = calibratedOk x k (a .part);
+      pairs = widthsOk k (a .part) (s .sizes);
+      tsa = growthsOk (s .growths) (a .tsa);
+      tdif = true;
+      range = axesOk (s .growths) (s .axes);
+    }
 
 unfoldable pub zeroTests : Package → ZeroMeasurement → Tests
 zeroTests p a =
@@ -92,8 +107,8 @@ zeroTests p a =
     }
 
 -- ---- the 42 numbers, the package after it, the outcome
-unfoldable pub zeroNumbersOf : ZeroMeasurement → Sizes → List ℤ
-zeroNumbersOf a s = filled (array (entriesOf (zeroKindOf a) (a .part) s (pos 0))) (ovr 28 (a .tsa) ∷ ovi 0 (a .offset) ∷ [])
+unfoldable pub zeroNumbersOf : Kind → ZeroMeasurement → Sizes → List ℤ
+zeroNumbersOf k a s = filled (array (entriesOf k (a .part) s (pos 0))) (ovr 28 (a .tsa) ∷ ovi 0 (a .offset) ∷ [])
 
 abbrev pub offsetLeft : Package → ℤ → Axes → Package
 offsetLeft p offset x = withOffset p offset (record { axes = x .first ∷ x .second ∷ x .third ∷ [] })

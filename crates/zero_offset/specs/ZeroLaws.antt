@@ -1,5 +1,5 @@
 -- Growths, axes and numbers of a measurement with zero offset, as the code finds them, in the words of `rules`.
-use mathlib.Core.Path.{_≡_, refl, ap₂}
+use mathlib.Core.Path.{_≡_, refl, ap, ap₂, _∙_}
 use mathlib.Core.Bool.{Bool, true, false, not, cond, _&&_, _||_}
 use mathlib.Core.List.{[], _∷_}
 use Prim.Native.Nat.{ℕ, suc, _≤_}
@@ -29,7 +29,7 @@ use Rattle.rules.specs.Zero.{zeroKindOf, probeIn, corrects, growth, eachCorrect
 use Rattle.rules.specs.MeasuringLaws.{zero-numbers}
 use Rattle.rules.specs.Results.{zeroResults}
 use Rattle.sizes.specs.Sizes.{kind, sizesOf}
-use Rattle.sizes.specs.SizeLaws.{probe-number, sizes-are, SizesSmall, sizes-small, by-axis, single-axis}
+use Rattle.sizes.specs.SizeLaws.{probe-number, widths-are, sizes-are, SizesSmall, sizes-small, by-axis, single-axis}
 use Rattle.sizes.specs.declared.Sizes.{Sizes}
 use Rattle.results.specs.Results.{recordRules, Small, entriesOf, refusedOutcome}
 use Rattle.results.specs.OutcomeLaws.{first-small, arguments-refused, records-refused, none-refused, number-size, entries-small}
@@ -37,7 +37,7 @@ use Rattle.zero_offset.specs.declared.Growth.{Growth}
 use Rattle.zero_offset.specs.declared.Growths.{Growths}
 use Rattle.zero_offset.specs.declared.Axes.{Axes}
 use Rattle.zero_offset.specs.declared.Shifted.{Shifted}
-use Rattle.zero_offset.specs.Zero.{ZeroPassed, growthIf, growthsFrom, SmallGrowths, growthsOk, leftFrom, shiftedIn, zeroTests, zeroNumbersOf, zeroAccepted, zeroOutcome}
+use Rattle.zero_offset.specs.Zero.{ZeroPassed, growthIf, growthsFrom, SmallGrowths, growthsOk, leftFrom, shiftedWith, shiftedIn, testsOf, zeroTests, zeroNumbersOf, zeroAccepted, zeroOutcome}
 
 -- ---- what the rules of the arguments tell
 module _ (a : ZeroMeasurement) (h : ZeroPassed a) where
@@ -126,7 +126,7 @@ module _ (p : Package) (a : ZeroMeasurement) where
         left (corrects a (pos 3)) (axisOf p a (pos 3)) (growth p a (pos 3)),
       )
 
-  pub tsa-is : growthsOk (growthsIn p a) (a .tsa) ≡ eachCorrected a (λ n. leZ (size (growth p a n)) (pos 2 *ℤ a .tsa))
+  tsa-is : growthsOk (growthsIn p a) (a .tsa) ≡ eachCorrected a (λ n. leZ (size (growth p a n)) (pos 2 *ℤ a .tsa))
   tsa-is =
       let t = pos 2 *ℤ a .tsa in
       ap₂ _&&_
@@ -134,11 +134,16 @@ module _ (p : Package) (a : ZeroMeasurement) where
       (held (corrects a (pos 3)) (growth p a (pos 3)) t)
 
   pub shifted-is : ZeroPassed a → shiftedIn p a ≡ shiftedBy p a
-  unfolding shiftedIn growth
+  unfolding shiftedWith growth
   shifted-is h =
       rw (found (probeIn p a) (a .part) (zeroKindOf a .form) (zeroKindOf a .inside) (part-passed a h), axes-are)
 
-  pub numbers-are : zeroNumbersOf a (sizesOf (probeIn p a) (zeroKindOf a) (a .part)) ≡ zeroResults p a
+  pub tests-are : ZeroPassed a → testsOf (probeIn p a) (zeroKindOf a) a (shiftedIn p a) ≡ zeroTests p a
+  unfolding zeroTests
+  tests-are h =
+      ap (testsOf (probeIn p a) (zeroKindOf a) a) (shifted-is h) ∙ rw (widths-are (probeIn p a) (zeroKindOf a) (a .part), tsa-is)
+
+  pub numbers-are : zeroNumbersOf (zeroKindOf a) a (sizesOf (probeIn p a) (zeroKindOf a) (a .part)) ≡ zeroResults p a
   unfolding zeroNumbersOf zeroResults
   numbers-are =
       let s = sizes-are (probeIn p a) (zeroKindOf a) (a .part) in

@@ -9,6 +9,7 @@ use package::OFFSETS;
 use package::OUTSIDE_RANGE;
 use package::Offset;
 use package::Package;
+use package::Probe;
 use package::Probing;
 use package::TOLERANCE_LIMIT;
 use package::WRONG_LIMITS;
@@ -40,10 +41,10 @@ ghost use mir.Val.{SFits};
 ghost use Rattle.rules.specs.Stores.{offsetNumber};
 ghost use Rattle.rules.specs.Kinds.{zeroKind};
 ghost use Rattle.rules.specs.Refusals.{first};
-ghost use Rattle.rules.specs.Zero.{zeroKindOf, zeroNumbers, zeroArguments, probeIn};
-ghost use Rattle.sizes.specs.Sizes.{sizesOf};
+ghost use Rattle.rules.specs.Sizes.{numbersOk};
+ghost use Rattle.rules.specs.Zero.{zeroKindOf, zeroNumbers, zeroArguments};
 ghost use Rattle.results.specs.Results.{Small, entriesOf};
-ghost use Rattle.zero_offset.specs.Zero.{ZeroPassed, growthIf, growthsFrom, SmallGrowths, growthOk, growthsOk, leftOk, axesOk, leftFrom, shiftedIn, zeroTests, zeroNumbersOf, offsetLeft, zeroOutcome};
+ghost use Rattle.zero_offset.specs.Zero.{ZeroPassed, growthIf, growthsFrom, SmallGrowths, growthOk, growthsOk, leftOk, axesOk, leftFrom, shiftedWith, testsOf, zeroNumbersOf, offsetLeft, zeroOutcome};
 
 // Whether an axis of the offset is corrected, and the h that it grows by, 0 where it is not.
 pub struct Growth {
@@ -181,28 +182,15 @@ fn axes_left(o: Offset, g: Growths) -> Axes
     }
 }
 
-fn sizes_in(p: Package, k: Kind, a: ZeroMeasurement) -> Sizes
+// What a measurement whose arguments passed finds; x is its probe, o its offset, k its kind.
+fn shifted_of(x: Probe, o: Offset, k: Kind, a: ZeroMeasurement) -> Shifted
     requires { ⌜ ZeroPassed a ⌝ }
     requires { ⌜ k ≡ zeroKindOf a ⌝ }
-    ensures { λ r. ⌜ r ≡ sizesOf (probeIn p a) (zeroKindOf a) (a .part) ⌝ }
+    ensures { λ r. ⌜ r ≡ shiftedWith x o a ⌝ }
 {
     let part = a.part;
-    let i = index(part.probe);
-    let x = p.probes[i];
-    sizes_of(x, k, part)
-}
-
-// What a measurement whose arguments passed finds of the records.
-fn shifted_of(p: Package, a: ZeroMeasurement) -> Shifted
-    requires { ⌜ ZeroPassed a ⌝ }
-    ensures { λ r. ⌜ r ≡ shiftedIn p a ⌝ }
-{
-    let part = a.part;
-    let k = zero_kind_of(part.kind);
-    let sizes = sizes_in(p, k, a);
+    let sizes = sizes_of(x, k, part);
     let growths = growths_of(k, part, sizes);
-    let i = index(a.offset);
-    let o = p.offsets[i];
     let axes = axes_left(o, growths);
     Shifted {
         sizes,
@@ -231,15 +219,12 @@ fn axes_ok(g: Growths, x: Axes) -> bool
 }
 
 // What of the records allows the measurement.
-fn tests_of(p: Package, a: ZeroMeasurement, s: Shifted) -> Tests
-    requires { ⌜ ZeroPassed a ⌝ }
-    requires { ⌜ s ≡ shiftedIn p a ⌝ }
-    ensures { λ r. ⌜ r ≡ zeroTests p a ⌝ }
+fn tests_of(x: Probe, k: Kind, a: ZeroMeasurement, s: Shifted) -> Tests
+    requires { ⌜ (numbersOk k (a .part) ≡ true) × (natAbs (a .tsa) ≤ 1000000) ⌝ }
+    requires { ⌜ SmallGrowths (s .growths) ⌝ }
+    ensures { λ r. ⌜ r ≡ testsOf x k a s ⌝ }
 {
     let part = a.part;
-    let k = zero_kind_of(part.kind);
-    let i = index(part.probe);
-    let x = p.probes[i];
     let sizes = s.sizes;
     let growths = s.growths;
     let axes = s.axes;
@@ -253,13 +238,12 @@ fn tests_of(p: Package, a: ZeroMeasurement, s: Shifted) -> Tests
 }
 
 // The 42 numbers of a measurement that is done.
-fn zero_numbers(a: ZeroMeasurement, s: Sizes) -> [i32; 42]
-    requires { ⌜ Small (entriesOf (zeroKindOf a) (a .part) s (pos 0)) ⌝ }
+fn zero_numbers(k: Kind, a: ZeroMeasurement, s: Sizes) -> [i32; 42]
+    requires { ⌜ Small (entriesOf k (a .part) s (pos 0)) ⌝ }
     requires { ⌜ (natAbs (a .tsa) ≤ 1000000) × (natAbs (a .offset) ≤ 4) ⌝ }
-    ensures { λ r. ⌜ r ≡ zeroNumbersOf a s ⌝ }
+    ensures { λ r. ⌜ r ≡ zeroNumbersOf k a s ⌝ }
 {
     let part = a.part;
-    let k = zero_kind_of(part.kind);
     let mut n = size_numbers(k, part, s, 0);
     n[28] = narrow(a.tsa);
     n[32] = narrow(a.offset);
@@ -288,8 +272,14 @@ pub fn zero_outcome(p: Package, a: ZeroMeasurement) -> Outcome
     if stated != DONE {
         return refused(p, stated);
     }
-    let s = shifted_of(p, a);
-    let refusal = records_refusal(tests_of(p, a, s));
+    let part = a.part;
+    let k = zero_kind_of(part.kind);
+    let i = index(part.probe);
+    let x = p.probes[i];
+    let j = index(a.offset);
+    let o = p.offsets[j];
+    let s = shifted_of(x, o, k, a);
+    let refusal = records_refusal(tests_of(x, k, a, s));
     if refusal != DONE {
         return refused(p, refusal);
     }
@@ -300,6 +290,6 @@ pub fn zero_outcome(p: Package, a: ZeroMeasurement) -> Outcome
         refusal: DONE,
         branch: ZERO_BRANCH,
         verdict: IN_TOLERANCE,
-        numbers: zero_numbers(a, sizes),
+        numbers: zero_numbers(k, a, sizes),
     }
 }
