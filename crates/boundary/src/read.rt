@@ -45,7 +45,7 @@ fn read_values(part: &[i32]) -> [i16; 20]
     values
 }
 
-// The probe of 7 numbers.
+// The probe of 7 numbers. No call of a user.
 pub fn read_probe(part: &[i32]) -> Probe
     requires { ⌜ length (now part) ≡ 7 ⌝ }
     ensures { λ r. ⌜ r ≡ probeFrom (now (part .entry)) ⌝ }

@@ -34,7 +34,7 @@ fn copy_numbers(numbers: &[i32], part: &mut [i32])
     }
 }
 
-// Writes a probe's 7 numbers.
+// Writes a probe's 7 numbers. No call of a user.
 pub fn write_probe(x: Probe, part: &mut [i32])
     requires { ⌜ length (now part) ≡ 7 ⌝ }
     ensures { λ _. ⌜ now (part .exit) ≡ probeNumbers x ⌝ }
@@ -137,7 +137,7 @@ pub fn pack(p: Package, area: &mut [i32])
     write_offsets(offsets, &mut area[OFFSETS..AREA]);
 }
 
-// Writes one of 20 values to the section that starts at a place; number 0 names none.
+// Writes one of 20 values to the section that starts at a place; number 0 names none. No call of a user.
 pub fn store_value(values: [i16; 20], n: i64, area: &mut [i32], at: usize)
     requires { ⌜ at + 20 ≤ length (now area) ⌝ }
     requires { ⌜ namedOrNone n ≡ true ⌝ }
@@ -150,7 +150,7 @@ pub fn store_value(values: [i16; 20], n: i64, area: &mut [i32], at: usize)
     }
 }
 
-// Writes one tool's wears to an area.
+// Writes one tool's wears to an area. No call of a user.
 pub fn store_tool(p: Package, tool: i64, area: &mut [i32])
     requires { ⌜ length (now area) ≡ 137 ⌝ }
     requires { ⌜ toolNumber tool ≡ true ⌝ }
@@ -162,7 +162,7 @@ pub fn store_tool(p: Package, tool: i64, area: &mut [i32])
     write_wear(x, &mut area[at..at + 2]);
 }
 
-// Writes one zero offset to an area.
+// Writes one zero offset to an area. No call of a user.
 pub fn store_offset(p: Package, offset: i64, area: &mut [i32])
     requires { ⌜ length (now area) ≡ 137 ⌝ }
     requires { ⌜ offsetNumber offset ≡ true ⌝ }
@@ -174,7 +174,7 @@ pub fn store_offset(p: Package, offset: i64, area: &mut [i32])
     write_offset(x, &mut area[at..at + 3]);
 }
 
-// Writes the 40 values of a block of 80 bytes.
+// Writes the 40 values of a block of 80 bytes. No call of a user.
 pub fn write_block(bytes: &[u8], part: &mut [i32])
     requires { ⌜ (length (now bytes) ≡ 80) × (length (now part) ≡ 40) ⌝ }
     ensures { λ _. ⌜ now (part .exit) ≡ words (now (bytes .entry)) ⌝ }

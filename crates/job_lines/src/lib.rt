@@ -27,8 +27,7 @@ ghost use Rattle.text.specs.Written.{written};
 ghost use Rattle.rules.specs.Calls.{measureTool, measureZero};
 ghost use Rattle.job_text.specs.Letters.{lent};
 ghost use Rattle.job_text.specs.Lines.{says, saidBy};
-ghost use Rattle.job_lines.specs.Answers.{noMeasurement, answer, ran, wholeField, signedField, rowText};
-ghost use Rattle.job_lines.specs.AnswerLaws.{measuredStep};
+ghost use Rattle.job_lines.specs.Answers.{noMeasurement, answer, measuredStep, ran, wholeField, signedField, rowText};
 
 // The places of the result array that an answer has: OVR[16] and OVR[20].
 const DEVIATION: usize = 16;

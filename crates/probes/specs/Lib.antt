@@ -1,1 +1,2 @@
 pub mod Calibrated
+pub mod CalibratedLaws

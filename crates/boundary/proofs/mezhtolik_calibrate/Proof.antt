@@ -14,7 +14,8 @@ use Rattle.rules.specs.Stores.{probeNumber, probeOf, withProbe}
 use Rattle.rules.specs.Calibration.{calibrationArguments}
 use Rattle.rules.specs.Calls.{calibrate, refusal}
 use Rattle.rules.specs.CallLaws.{refused}
-use Rattle.probes.specs.Calibrated.{calibratedWith, package-refused, package-done}
+use Rattle.probes.specs.Calibrated.{calibratedWith}
+use Rattle.probes.specs.CalibratedLaws.{package-refused, package-done}
 use Rattle.probes.specs.declared.Calibrated.{Calibrated}
 use Rattle.boundary.specs.Area.{probeNumbers, unpacked}
 use Rattle.boundary.specs.Exports.{replaced, probeRenewed, renewedBy, calibration}

@@ -15,7 +15,8 @@ use Rattle.rules.specs.Stores.{probeNumber, probeOf, withProbe}
 use Rattle.rules.specs.Calibration.{calibrationArguments}
 use Rattle.rules.specs.Calls.{refusal, calibrate}
 use Rattle.rules.specs.CallLaws.{refused}
-use Rattle.probes.specs.Calibrated.{calibratedWith, package-refused, package-done}
+use Rattle.probes.specs.Calibrated.{calibratedWith}
+use Rattle.probes.specs.CalibratedLaws.{package-refused, package-done}
 use Rattle.probes.specs.declared.Calibrated.{Calibrated}
 use Rattle.probes.proofs.calibrate.Statement.{statement}
 use Rattle.probes.proofs.calibrate.Tie as tie

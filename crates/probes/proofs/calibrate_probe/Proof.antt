@@ -20,7 +20,8 @@ use Rattle.rules.specs.RefusalLaws.{Numbered, Passed, all-passed, first-sooner,
 use Rattle.rules.specs.Probes.{triggerOf}
 use Rattle.rules.specs.Calibration.{newTrigger, change, calibrationNumbers, calibrationPositions, calibrationArguments, calibrationRecords}
 use Rattle.rules.specs.ProbeLaws.{numbers-are, trigger-in}
-use Rattle.probes.specs.Calibrated.{calibrationRefusal, probe-refused, probe-done}
+use Rattle.probes.specs.Calibrated.{calibrationRefusal}
+use Rattle.probes.specs.CalibratedLaws.{probe-refused, probe-done}
 use Rattle.probes.proofs.Laws.{trigger-size}
 use Rattle.probes.proofs.calibrate_probe.Statement.{statement}
 use Rattle.probes.proofs.calibrate_probe.Tie as tie
