@@ -2,30 +2,33 @@
 use mathlib.Core.Path.{_≡_}
 use mathlib.Core.Bool.{Bool, true, false, not, cond}
 use mathlib.Core.List.{List, [], _∷_}
-use Prim.Native.Nat.{_≤_}
+use Prim.Native.Nat.{ℕ, _≤_}
+use lib.Dec.{eqb}
 use lib.IntN.{ℤ, pos, natAbs, _+ℤ_, _-ℤ_, _*ℤ_}
 use lib.Signed.{leZ}
 use Rattle.signed.specs.Ranges.{minus, within, size, eqZ}
 use Rattle.package.specs.declared.Package.{Package}
 use Rattle.package.specs.declared.Probe.{Probe}
-use Rattle.package.specs.declared.Memory.{Memory}
 use Rattle.package.specs.declared.Wear.{Wear}
 use Rattle.package.specs.declared.Kind.{Kind}
 use Rattle.package.specs.declared.ToolMeasurement.{ToolMeasurement}
-use Rattle.rules.specs.Stores.{pick, put, valueRange, wearRange, probeOf, wearOf, withMemory, withWear}
+use Rattle.rules.specs.Stores.{put, valueRange, wearRange, probeOf, wearOf, withMemory, withWear}
+use Rattle.rules.specs.Refusals.{first}
 use Rattle.rules.specs.Probes.{sign}
 use Rattle.rules.specs.Kinds.{byForm}
 use Rattle.rules.specs.Sizes.{positionsOk, calibratedOk}
 use Rattle.rules.specs.Mean.{meanStep}
-use Rattle.rules.specs.Tool.{toolKindOf, weight, limitsOk, verdict, branchNumber, deviation, empiricalOf, branch, correction, meanLeft, wearLeft, toolNumbers, toolArguments, toolRecords, toolDone}
-use Rattle.rules.specs.Results.{Entry, ovr, ovi, toolResults}
+use Rattle.rules.specs.Tool.{toolKindOf, weight, limitsOk, verdict, branchNumber, deviation, empiricalOf, oldMean, branch, correction, meanLeft, wearLeft, toolNumbers, toolArguments, toolRecords, toolDone}
+use Rattle.rules.specs.Results.{Entry, ovr, ovi, filled, array, toolResults, refusedResults}
 use Rattle.sizes.specs.Sizes.{sizesOf, widthsOk}
 use Rattle.sizes.specs.SizeLaws.{SizesSmall}
 use Rattle.tolerance.specs.Decided.{decided}
 use Rattle.tolerance.specs.declared.Decision.{Decision}
-use Rattle.results.specs.Results.{outcomeOf}
+use Rattle.results.specs.Results.{recordRules, entriesOf, outcomeOf}
 use Rattle.results.specs.declared.Outcome.{Outcome}
 use Rattle.results.specs.declared.Tests.{Tests}
+use Rattle.tool_offset.specs.declared.ToolRecords.{ToolRecords}
+use Rattle.tool_offset.specs.declared.ToolLeft.{ToolLeft}
 use Rattle.tool_offset.specs.declared.Found.{Found}
 
 -- what the rules of the arguments tell where they passed
@@ -54,22 +57,24 @@ foundIn p a =
       wear = wearLeft p a;
     }
 
-abbrev pub decisionOn : Memory → ToolMeasurement → ℤ → Decision
-decisionOn m a d = decided (a .limits) (not (eqZ (a .mv) (pos 0))) (pick (pos 0) (m .means) (a .mv)) (meanStep (pick (pos 0) (m .means) (a .mv)) d (weight a)) d
+abbrev pub decisionOn : ℤ → ToolMeasurement → ℤ → Decision
+decisionOn old a d = decided (a .limits) (not (eqZ (a .mv) (pos 0))) old (meanStep old d (weight a)) d
 
--- what is found of the memory, the tool's wears and the probe
-unfoldable pub foundWith : Memory → Wear → Probe → ToolMeasurement → Found
-foundWith m w x a =
+-- the records that a measurement reads, and what is found of them
+abbrev pub recordsOf : Package → ToolMeasurement → ToolRecords
+recordsOf p a = record { probe = probeOf p (a .part .probe); ev = empiricalOf p a; mean = oldMean p a; wear = wearOf p (a .tool) }
+
+unfoldable pub foundWith : ToolRecords → ToolMeasurement → Found
+foundWith r a =
     let k = toolKindOf a in
-    let ev = pick (pos 0) (m .empirical) (a .ev) in
-    let d = sizesOf x k (a .part) .measured -ℤ ev -ℤ a .part .setpoint in
-    let decision = decisionOn m a d in
+    let d = sizesOf (r .probe) k (a .part) .measured -ℤ r .ev -ℤ a .part .setpoint in
+    let decision = decisionOn (r .mean) a d in
     record {
-      sizes = sizesOf x k (a .part);
-      ev = ev;
+      sizes = sizesOf (r .probe) k (a .part);
+      ev = r .ev;
       deviation = d;
       decision = decision;
-      wear = wearBefore w (alongLength k (a .part .axis)) +ℤ wearFactor k (a .part .direction) *ℤ decision .correction;
+      wear = wearBefore (r .wear) (alongLength k (a .part .axis)) +ℤ wearFactor k (a .part .direction) *ℤ decision .correction;
     }
 
 -- how large the numbers of a decision and of what was found are
@@ -112,14 +117,44 @@ toolEntries a f =
     ovi 8 (a .tool) ∷
     []
 
--- ---- the package after it, of what was found
+-- ---- what it leaves of its records, with its answer
 abbrev pub wearWith : Wear → Bool → ℤ → Wear
 wearWith w length left = cond length (record { radius = w .radius; length = left }) (record { radius = left; length = w .length })
 
-abbrev pub doneWith : Package → Kind → ToolMeasurement → Found → Package
-doneWith p k a f =
-    withWear (withMemory p (record { empirical = p .memory .empirical; means = put (p .memory .means) (a .mv) (f .decision .mean) })) (a .tool)
-    (wearWith (wearOf p (a .tool)) (alongLength k (a .part .axis)) (f .wear))
+abbrev pub leftDone : Wear → ToolMeasurement → Found → ToolLeft
+leftDone w a f =
+    record {
+      mean = f .decision .mean;
+      wear = wearWith w (alongLength (toolKindOf a) (a .part .axis)) (f .wear);
+      refusal = 0;
+      branch = branchNumber (f .decision .branch);
+      verdict = verdict (a .limits) (f .deviation);
+      numbers = filled (array (entriesOf (toolKindOf a) (a .part) (f .sizes) (f .ev))) (toolEntries a f);
+    }
+
+abbrev pub leftRefused : ToolRecords → ℕ → ToolLeft
+leftRefused r n = record { mean = r .mean; wear = r .wear; refusal = n; branch = 0; verdict = 0; numbers = refusedResults n }
+
+unfoldable pub toolLeft : ToolRecords → ToolMeasurement → ToolLeft
+toolLeft r a =
+    let f = foundWith r a in
+    let n = first (recordRules (testsOf (r .probe) (toolKindOf a) a f)) in
+    cond (eqb n 0) (leftDone (r .wear) a f) (leftRefused r n)
+
+-- the package with the mean value and the wears left, and what a measurement comes to
+abbrev pub leftIn : Package → ToolMeasurement → ToolLeft → Package
+leftIn p a l =
+    withWear (withMemory p (record { empirical = p .memory .empirical; means = put (p .memory .means) (a .mv) (l .mean) })) (a .tool) (l .wear)
+
+abbrev pub leftOutcome : Package → ToolMeasurement → ToolLeft → Outcome
+leftOutcome p a l =
+    record {
+      after = cond (eqb (l .refusal) 0) (leftIn p a l) p;
+      refusal = l .refusal;
+      branch = l .branch;
+      verdict = l .verdict;
+      numbers = l .numbers;
+    }
 
 -- ---- the outcome
 abbrev pub toolAccepted : Package → ToolMeasurement → Outcome

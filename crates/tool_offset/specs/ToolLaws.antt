@@ -2,13 +2,15 @@
 use mathlib.Core.Path.{_≡_, refl, sym, ap, _∙_}
 use mathlib.Core.Bool.{Bool, true, false, cond, and-eq-true-iff}
 use mathlib.Core.List.{List}
-use Prim.Native.Nat.{ℕ, suc, _≤_, _<_}
+use Prim.Native.Nat.{ℕ, zero, suc, _≤_, _<_}
 use native.Mathlib.Omega.{arith}
+use lib.Dec.{eqb}
 use lib.IntN.{ℤ, pos, natAbs, _*ℤ_}
 use lib.ListN.{replicate}
 use lib.Signed.{_≤ℤ_, ltZ, mag}
 use mir.Syntax.{w16}
 use mir.Val.{SFits}
+use borrow.Author.Tests.{ne-eqb}
 use Rattle.signed.specs.Differences.{ints, parts}
 use Rattle.signed.specs.Sizes.{abs-add}
 use Rattle.signed.specs.Ranges.{minus, within}
@@ -23,23 +25,23 @@ use Rattle.package.specs.declared.Probing.{Probing}
 use Rattle.package.specs.declared.ToolMeasurement.{ToolMeasurement}
 use Rattle.package.specs.declared.Branch.{Branch}
 use Rattle.package.specs.declared.Branch.the-variants.{One, Two, Three, Four, Five}
-use Rattle.rules.specs.Stores.{put, probeNumber, valueRange, wearRange, probeOf, wearOf, withMemory, withWear}
+use Rattle.rules.specs.Stores.{probeNumber, valueRange, probeOf, wearOf}
 use Rattle.rules.specs.Refusals.{first}
 use Rattle.rules.specs.RefusalLaws.{all-passed}
 use Rattle.rules.specs.Sizes.{positionsOk}
 use Rattle.rules.specs.Probes.{sign}
 use Rattle.rules.specs.ProbeLaws.{sign-size}
 use Rattle.rules.specs.Kinds.{byForm}
-use Rattle.rules.specs.Tool.{toolKindOf, deviation, correctionIn, newMean, branch, correction, meanLeft, onLength, grown, wearLeft, empiricalOf, namedOrNone, branchNumber, verdict, toolArguments, toolRecords, toolDone}
+use Rattle.rules.specs.Tool.{toolKindOf, deviation, correctionIn, newMean, branch, correction, meanLeft, onLength, grown, correctedWear, wearLeft, empiricalOf, namedOrNone, toolArguments, toolRecords}
 use Rattle.rules.specs.MeasuringLaws.{tool-numbers, limits-passed}
 use Rattle.rules.specs.Results.{Entry, sizeEntries, filled, array, toolResults}
 use Rattle.sizes.specs.Sizes.{sizesOf}
 use Rattle.sizes.specs.SizeLaws.{probe-number, sizes-are, widths-are}
 use Rattle.results.specs.Results.{recordRules, Small, entriesOf, refusedOutcome}
-use Rattle.results.specs.declared.Outcome.{Outcome}
 use Rattle.results.specs.OutcomeLaws.{first-small, arguments-refused, records-refused, none-refused, between-size, number-size}
 use Rattle.results.specs.ResultLaws.{filled-append}
-use Rattle.tool_offset.specs.Tool.{ToolPassed, wearFactor, foundIn, foundWith, FoundSmall, testsOf, toolEntries, doneWith, toolAccepted, toolOutcome}
+use Rattle.tool_offset.specs.Tool.{ToolPassed, wearFactor, foundIn, recordsOf, foundWith, FoundSmall, testsOf, toolEntries, wearWith, leftDone, leftRefused, toolLeft, leftOutcome, toolAccepted, toolOutcome}
+use Rattle.tool_offset.specs.declared.ToolLeft.{ToolLeft}
 use Rattle.tool_offset.specs.declared.Found.{Found}
 
 -- ---- the arguments
@@ -117,7 +119,7 @@ tool-small a f h t =
     (omega (arith, abs-add (a .part .setpoint) (z .tul), t .sizes .setpoint, tul), (omega (arith, abs-add (a .part .setpoint) (z .tll), t .sizes .setpoint, tll), (omega (arith, t .decision .correction), (omega (arith, between-size 0 1000000 (z .tzl) (l .chain .0, tzl)), (omega (arith, between-size 0 1000000 (z .tsa) (above-tsa, tsa)), (omega (arith, between-size 0 1000000 (z .tdif) (above-tdif, tdif)), (omega (arith, t .ev), (omega (arith, value-size (f .decision .mean) (t .decision .mean)), (omega (arith, tool), (omega (arith, number-size 1 1000 (a .k) (h .weight)), (omega (arith, number-size 0 20 (a .mv) (n .mv)), (omega (arith, number-size 0 20 (a .ev) (n .ev)), (omega (arith, tool), tt)))))))))))))
 
 -- ---- what is found is what `rules` says
-pub found-is : (p : Package) (a : ToolMeasurement) → foundWith (p .memory) (wearOf p (a .tool)) (probeOf p (a .part .probe)) a ≡ foundIn p a
+found-is : (p : Package) (a : ToolMeasurement) → foundWith (recordsOf p a) a ≡ foundIn p a
 unfolding foundWith foundIn sizesOf deviation branch correction meanLeft newMean wearLeft
 found-is p a = refl
 
@@ -126,21 +128,13 @@ tests-found : (p : Package) (a : ToolMeasurement) → first (recordRules (testsO
 unfolding foundIn toolRecords
 tests-found p a = rw (widths-are (probeOf p (a .part .probe)) (toolKindOf a) (a .part))
 
-pub tests-are : (p : Package) (a : ToolMeasurement) (x : Probe) (k : Kind) (f : Found) → x ≡ probeOf p (a .part .probe) → k ≡ toolKindOf a → f ≡ foundIn p a
-    → first (recordRules (testsOf x k a f)) ≡ first (toolRecords p a)
-tests-are p a x k f ex ek ef =
-    ap (λ (x : Probe). first (recordRules (testsOf x k a f))) ex
-    ∙ ap (λ (k : Kind). first (recordRules (testsOf (probeOf p (a .part .probe)) k a f))) ek
-    ∙ ap (λ (f : Found). first (recordRules (testsOf (probeOf p (a .part .probe)) (toolKindOf a) a f))) ef
-    ∙ tests-found p a
-
 -- the entries of the sizes
-pub entries-are : (x : Probe) (k : Kind) (a : Probing) (ev : ℤ) → entriesOf k a (sizesOf x k a) ev ≡ sizeEntries x k a ev
+entries-are : (x : Probe) (k : Kind) (a : Probing) (ev : ℤ) → entriesOf k a (sizesOf x k a) ev ≡ sizeEntries x k a ev
 entries-are x k a ev =
     let s = sizes-are x k a in
     rw (s .measured-is, s .first .set-is, s .second .set-is, s .first .centre-is, s .second .centre-is, s .first .shift-is, s .second .shift-is)
 
-pub numbers-are : (p : Package) (a : ToolMeasurement) →
+numbers-are : (p : Package) (a : ToolMeasurement) →
     filled (array (entriesOf (toolKindOf a) (a .part) (foundIn p a .sizes) (foundIn p a .ev))) (toolEntries a (foundIn p a)) ≡ toolResults p a
 unfolding foundIn toolResults
 numbers-are p a =
@@ -149,19 +143,16 @@ numbers-are p a =
     ap (λ (es : List Entry). filled (array es) (toolEntries a (foundIn p a))) (entries-are x k (a .part) (empiricalOf p a))
     ∙ sym (filled-append (replicate 42 (pos 0)) (sizeEntries x k (a .part) (empiricalOf p a)) (toolEntries a (foundIn p a)))
 
--- the package after it
-pub done-is : (p : Package) (a : ToolMeasurement) → doneWith p (toolKindOf a) a (foundIn p a) ≡ toolDone p a
+-- the tool's wears after it
+wear-is : (p : Package) (a : ToolMeasurement) → wearWith (wearOf p (a .tool)) (onLength a) (foundIn p a .wear) ≡ correctedWear p a (wearOf p (a .tool))
 unfolding foundIn wearLeft
-done-is p a = ap (λ (x : Wear). withWear (withMemory p (record { empirical = p .memory .empirical; means = put (p .memory .means) (a .mv) (meanLeft p a) })) (a .tool) x) (go (onLength a))
+wear-is p a = go (onLength a)
   where
     w : Wear
     w = wearOf p (a .tool)
 
-    go : (b : Bool) → _≡_ {A = Wear}
-        (cond b
-        (record { radius = w .radius; length = grown p a (cond b (w .length) (w .radius)) })
-        (record { radius = grown p a (cond b (w .length) (w .radius)); length = w .length }))
-        (cond b (record { radius = w .radius; length = grown p a (w .length) }) (record { radius = grown p a (w .radius); length = w .length }))
+    go : (b : Bool) → wearWith w b (grown p a (cond b (w .length) (w .radius))) ≡
+        cond b (record { radius = w .radius; length = grown p a (w .length) }) (record { radius = grown p a (w .radius); length = w .length })
     go true = refl
     go false = refl
 
@@ -171,38 +162,32 @@ module _ (p : Package) (a : ToolMeasurement) where
   unfolding toolOutcome
   arguments-sooner n e = arguments-refused p (toolArguments a) (toolRecords p a) (toolAccepted p a) n e
 
-  pub records-later : first (toolArguments a) ≡ 0 → (n : ℕ) → first (toolRecords p a) ≡ suc n → toolOutcome p a ≡ refusedOutcome p (suc n)
-  unfolding toolOutcome toolArguments
-  records-later e n q = records-refused p (toolArguments a) (toolRecords p a) (toolAccepted p a) tt e n q
-
-  pub all-done : first (toolArguments a) ≡ 0 → first (toolRecords p a) ≡ 0 → toolOutcome p a ≡ toolAccepted p a
-  unfolding toolOutcome toolArguments
-  all-done e q = none-refused p (toolArguments a) (toolRecords p a) (toolAccepted p a) tt e q
-
   pub arguments-small : first (toolArguments a) ≤ 9
   unfolding toolArguments
   arguments-small = first-small (toolArguments a) tt
 
-  pub records-small : first (toolRecords p a) ≤ 9
-  unfolding toolRecords
-  records-small = first-small (toolRecords p a) tt
-
-  -- the wear that a measurement leaves is stored
-  pub wear-kept : first (toolRecords p a) ≡ 0 → wearRange (foundIn p a .wear) ≡ true
-  unfolding toolRecords foundIn
-  wear-kept e = all-passed (toolRecords p a) tt e .1 .1 .1 .1 .0
-
   -- what is done, of what was found
-  pub accepted-is : (f : Found) → f ≡ foundIn p a →
-      let k = toolKindOf a in
-      _≡_ {A = Outcome}
-      (record {
-        after = doneWith p k a f;
-        refusal = 0;
-        branch = branchNumber (f .decision .branch);
-        verdict = verdict (a .limits) (f .deviation);
-        numbers = filled (array (entriesOf k (a .part) (f .sizes) (f .ev))) (toolEntries a f);
-      })
-      (toolAccepted p a)
+  accepted-is : leftOutcome p a (leftDone (wearOf p (a .tool)) a (foundIn p a)) ≡ toolAccepted p a
   unfolding foundIn
-  accepted-is f e = rw (e, done-is p a, numbers-are p a)
+  accepted-is = rw (wear-is p a, numbers-are p a)
+
+  -- what it leaves, of what was found and the first refusal
+  abbrev leftWith : Found → ℕ → ToolLeft
+  leftWith f n = cond (eqb n 0) (leftDone (wearOf p (a .tool)) a f) (leftRefused (recordsOf p a) n)
+
+  left-is : toolLeft (recordsOf p a) a ≡ leftWith (foundIn p a) (first (toolRecords p a))
+  unfolding toolLeft
+  left-is =
+      ap (λ (f : Found). leftWith f (first (recordRules (testsOf (probeOf p (a .part .probe)) (toolKindOf a) a f)))) (found-is p a)
+      ∙ ap (leftWith (foundIn p a)) (tests-found p a)
+
+  -- where the arguments passed
+  pub outcome-left : first (toolArguments a) ≡ 0 → toolOutcome p a ≡ leftOutcome p a (toolLeft (recordsOf p a) a)
+  unfolding toolOutcome toolArguments
+  outcome-left e = rw left-is (go (first (toolRecords p a)) refl)
+    where
+      go : (n : ℕ) → first (toolRecords p a) ≡ n → toolOutcome p a ≡ leftOutcome p a (leftWith (foundIn p a) n)
+      go zero q = none-refused p (toolArguments a) (toolRecords p a) (toolAccepted p a) tt e q ∙ sym accepted-is
+      go (suc n) q =
+          let f = ne-eqb (suc n) 0 (λ z. omega arith) in
+          records-refused p (toolArguments a) (toolRecords p a) (toolAccepted p a) tt e n q ∙ rw f (rw f)

@@ -20,6 +20,7 @@ use results::Tests;
 use results::narrow;
 use results::records_refusal;
 use results::refused;
+use results::refused_numbers;
 use results::size_numbers;
 use signed::in_range;
 use signed::index;
@@ -41,15 +42,34 @@ use tolerance::verdict_of;
 ghost use mathlib.Core.Path.{_≡_};
 ghost use mathlib.Core.Bool.{true, cond};
 ghost use Prim.Native.Nat.{_≤_};
+ghost use lib.Dec.{eqb};
 ghost use lib.IntN.{pos, natAbs, _+ℤ_, _-ℤ_, _*ℤ_};
 ghost use Rattle.signed.specs.Ranges.{minus};
-ghost use Rattle.rules.specs.Stores.{pick, put, toolNumber, valueRange, wearRange};
+ghost use Rattle.rules.specs.Stores.{pick, put, wearRange};
 ghost use Rattle.rules.specs.Refusals.{first};
 ghost use Rattle.rules.specs.Sizes.{numbersOk};
 ghost use Rattle.rules.specs.Tool.{toolKindOf, namedOrNone, toolNumbers, toolArguments};
 ghost use Rattle.rules.specs.Results.{filled, array};
 ghost use Rattle.results.specs.Results.{Small, entriesOf};
-ghost use Rattle.tool_offset.specs.Tool.{ToolPassed, wearFactor, alongLength, wearBefore, decisionOn, DecisionSmall, foundWith, FoundSmall, testsOf, toolEntries, wearWith, doneWith, toolOutcome};
+ghost use Rattle.tool_offset.specs.Tool.{ToolPassed, wearFactor, alongLength, wearBefore, decisionOn, DecisionSmall, recordsOf, foundWith, FoundSmall, testsOf, toolEntries, wearWith, leftRefused, leftDone, toolLeft, leftIn, toolOutcome};
+
+// The records that a measurement reads: its probe, the empirical and mean values that it names, 0 for none, and its tool's wears.
+pub struct ToolRecords {
+    pub probe: Probe,
+    pub ev: i16,
+    pub mean: i16,
+    pub wear: Wear,
+}
+
+// What a measurement leaves of its records, its answer and the 42 numbers of the result array. A refused one leaves mean value and wears as they were.
+pub struct ToolLeft {
+    pub mean: i16,
+    pub wear: Wear,
+    pub refusal: u32,
+    pub branch: u32,
+    pub verdict: u32,
+    pub numbers: [i32; 42],
+}
 
 // What a measurement finds of the records: sizes, empirical value, deviation D, decision, and the wear that it would leave.
 pub struct Found {
@@ -61,20 +81,20 @@ pub struct Found {
 }
 
 // The empirical or mean value with a number, 0 for number 0.
-fn value_at(values: [i16; 20], n: i64) -> i64
+fn value_at(values: [i16; 20], n: i64) -> i16
     requires { ⌜ namedOrNone n ≡ true ⌝ }
-    ensures { λ r. ⌜ (r ≡ pick (pos 0) values n) × (valueRange r ≡ true) ⌝ }
+    ensures { λ r. ⌜ r ≡ pick (pos 0) values n ⌝ }
 {
     if n < 1 {
         return 0;
     }
     let i = index(n);
-    values[i] as i64
+    values[i]
 }
 
 // The values with one replaced, none for number 0.
-fn with_value(values: [i16; 20], n: i64, v: i64) -> [i16; 20]
-    requires { ⌜ (namedOrNone n ≡ true) × (valueRange v ≡ true) ⌝ }
+fn with_value(values: [i16; 20], n: i64, v: i16) -> [i16; 20]
+    requires { ⌜ namedOrNone n ≡ true ⌝ }
     ensures { λ r. ⌜ r ≡ put values n v ⌝ }
 {
     if n < 1 {
@@ -82,7 +102,7 @@ fn with_value(values: [i16; 20], n: i64, v: i64) -> [i16; 20]
     }
     let i = index(n);
     let mut after = values;
-    after[i] = v as i16;
+    after[i] = v;
     after
 }
 
@@ -100,7 +120,7 @@ fn tool_numbers_ok(k: Kind, a: ToolMeasurement) -> bool
 }
 
 // The first refusal that the arguments alone give.
-fn arguments_refusal(a: ToolMeasurement) -> u32
+pub fn tool_refusal(a: ToolMeasurement) -> u32
     ensures { λ r. ⌜ r ≡ first (toolArguments a) ⌝ }
 {
     let part = a.part;
@@ -175,30 +195,30 @@ fn grown_wear(before: i64, factor: i64, c: i64) -> i64
     before + factor * c
 }
 
-// The decision on a deviation d, with the mean that is named.
-fn decision_of(m: Memory, a: ToolMeasurement, d: i64) -> Decision
+// The decision on a deviation d, with the old value of the mean that is named.
+fn decision_of(mean: i16, a: ToolMeasurement, d: i64) -> Decision
     requires { ⌜ ToolPassed a × (natAbs d ≤ 100000000) ⌝ }
-    ensures { λ r. ⌜ (r ≡ decisionOn m a d) × DecisionSmall r ⌝ }
+    ensures { λ r. ⌜ (r ≡ decisionOn mean a d) × DecisionSmall r ⌝ }
 {
-    let means = m.means;
     let limits = a.limits;
-    let old = value_at(means, a.mv);
+    let old = mean as i64;
     let next = mean_step(old, d, a.k);
     decide(limits, !same(a.mv, 0), old, next, d)
 }
 
-// What a measurement whose arguments passed finds; w are its tool's wears, x is its probe, k its kind.
-fn found_of(memory: Memory, w: Wear, x: Probe, k: Kind, a: ToolMeasurement) -> Found
+// What a measurement whose arguments passed finds; k is its kind.
+fn found_of(r: ToolRecords, k: Kind, a: ToolMeasurement) -> Found
     requires { ⌜ ToolPassed a ⌝ }
     requires { ⌜ k ≡ toolKindOf a ⌝ }
-    ensures { λ r. ⌜ (r ≡ foundWith memory w x a) × FoundSmall a r ⌝ }
+    ensures { λ f. ⌜ (f ≡ foundWith r a) × FoundSmall a f ⌝ }
 {
     let part = a.part;
-    let empirical = memory.empirical;
+    let x = r.probe;
+    let w = r.wear;
     let sizes = sizes_of(x, k, part);
-    let ev = value_at(empirical, a.ev);
+    let ev = r.ev as i64;
     let deviation = deviation_of(sizes.measured, ev, part.setpoint);
-    let decision = decision_of(memory, a, deviation);
+    let decision = decision_of(r.mean, a, deviation);
     let before = wear_before(w, on_length(k, part.axis));
     let wear = grown_wear(before, factor_of(k, part.direction), decision.correction);
     Found {
@@ -269,26 +289,101 @@ fn wear_with(w: Wear, length: bool, left: i64) -> Wear
     }
 }
 
-// The package after a measurement that is done: the mean and the one wear replaced.
-fn tool_done(p: Package, k: Kind, a: ToolMeasurement, f: Found) -> Package
-    requires { ⌜ (namedOrNone (a .mv) ≡ true) × (toolNumber (a .tool) ≡ true) ⌝ }
-    requires { ⌜ (valueRange (f .decision .mean) ≡ true) × (wearRange (f .wear) ≡ true) ⌝ }
-    ensures { λ r. ⌜ r ≡ doneWith p k a f ⌝ }
+// What a measurement that is refused leaves.
+fn left_refused(r: ToolRecords, refusal: u32) -> ToolLeft
+    requires { ⌜ refusal ≤ 9 ⌝ }
+    ensures { λ l. ⌜ l ≡ leftRefused r refusal ⌝ }
+{
+    let wear = r.wear;
+    ToolLeft {
+        mean: r.mean,
+        wear,
+        refusal,
+        branch: 0,
+        verdict: 0,
+        numbers: refused_numbers(refusal),
+    }
+}
+
+// What a measurement that is done leaves.
+fn left_done(w: Wear, k: Kind, a: ToolMeasurement, f: Found) -> ToolLeft
+    requires { ⌜ ToolPassed a × FoundSmall a f ⌝ }
+    requires { ⌜ (k ≡ toolKindOf a) × (wearRange (f .wear) ≡ true) ⌝ }
+    ensures { λ l. ⌜ l ≡ leftDone w a f ⌝ }
 {
     let part = a.part;
+    let limits = a.limits;
+    let decision = f.decision;
+    let branch = decision.branch;
+    ToolLeft {
+        mean: decision.mean as i16,
+        wear: wear_with(w, on_length(k, part.axis), f.wear),
+        refusal: DONE,
+        branch: branch_number(branch),
+        verdict: verdict_of(limits, f.deviation),
+        numbers: tool_numbers(k, a, f),
+    }
+}
+
+// What a measurement whose arguments passed leaves. No call of a user.
+pub fn tool_left(r: ToolRecords, a: ToolMeasurement) -> ToolLeft
+    requires { ⌜ ToolPassed a ⌝ }
+    ensures { λ l. ⌜ l ≡ toolLeft r a ⌝ }
+{
+    let part = a.part;
+    let x = r.probe;
+    let k = kind_of(part.kind);
+    let f = found_of(r, k, a);
+    let refusal = records_refusal(tests_of(x, k, a, f));
+    if refusal != DONE {
+        return left_refused(r, refusal);
+    }
+    let w = r.wear;
+    left_done(w, k, a, f)
+}
+
+// The records of a package that a measurement whose arguments passed reads.
+fn tool_records(p: Package, a: ToolMeasurement) -> ToolRecords
+    requires { ⌜ ToolPassed a ⌝ }
+    ensures { λ r. ⌜ r ≡ recordsOf p a ⌝ }
+{
+    let part = a.part;
+    let memory = p.memory;
+    let empirical = memory.empirical;
+    let means = memory.means;
+    let i = index(part.probe);
+    let probe = p.probes[i];
+    let j = index(a.tool);
+    let wear = p.tools[j];
+    ToolRecords {
+        probe,
+        ev: value_at(empirical, a.ev),
+        mean: value_at(means, a.mv),
+        wear,
+    }
+}
+
+// The package after a measurement that left this, with its mean value and wears replaced where it is done.
+fn tool_done(p: Package, a: ToolMeasurement, l: ToolLeft) -> Package
+    requires { ⌜ ToolPassed a ⌝ }
+    ensures { λ r. ⌜ r ≡ cond (eqb (l .refusal) 0) (leftIn p a l) p ⌝ }
+{
+    if l.refusal != DONE {
+        return p;
+    }
     let old = p.memory;
     let empirical = old.empirical;
     let means = old.means;
-    let left = with_value(means, a.mv, f.decision.mean);
+    let left = with_value(means, a.mv, l.mean);
     let memory = Memory {
         empirical,
         means: left,
     };
     let i = index(a.tool);
-    let w = wear_with(p.tools[i], on_length(k, part.axis), f.wear);
+    let wear = l.wear;
     let mut after = p;
     after.memory = memory;
-    after.tools[i] = w;
+    after.tools[i] = wear;
     after
 }
 
@@ -296,30 +391,17 @@ fn tool_done(p: Package, k: Kind, a: ToolMeasurement, f: Found) -> Package
 pub fn tool_outcome(p: Package, a: ToolMeasurement) -> Outcome
     ensures { λ r. ⌜ r ≡ toolOutcome p a ⌝ }
 {
-    let stated = arguments_refusal(a);
+    let stated = tool_refusal(a);
     if stated != DONE {
         return refused(p, stated);
     }
-    let part = a.part;
-    let limits = a.limits;
-    let k = kind_of(part.kind);
-    let i = index(part.probe);
-    let x = p.probes[i];
-    let j = index(a.tool);
-    let w = p.tools[j];
-    let memory = p.memory;
-    let f = found_of(memory, w, x, k, a);
-    let refusal = records_refusal(tests_of(x, k, a, f));
-    if refusal != DONE {
-        return refused(p, refusal);
-    }
-    let decision = f.decision;
-    let branch = decision.branch;
+    let l = tool_left(tool_records(p, a), a);
+    let numbers = l.numbers;
     Outcome {
-        after: tool_done(p, k, a, f),
-        refusal: DONE,
-        branch: branch_number(branch),
-        verdict: verdict_of(limits, f.deviation),
-        numbers: tool_numbers(k, a, f),
+        after: tool_done(p, a, l),
+        refusal: l.refusal,
+        branch: l.branch,
+        verdict: l.verdict,
+        numbers,
     }
 }
