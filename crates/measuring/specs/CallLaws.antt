@@ -14,12 +14,19 @@ use borrow.Author.Tests.{ne-eqb}
 use Rattle.lists.specs.Copied.{part-end, put-end}
 use Rattle.lists.specs.Each.{every}
 use Rattle.package.specs.declared.Package.{Package}
+use Rattle.package.specs.declared.ToolMeasurement.{ToolMeasurement}
+use Rattle.package.specs.declared.ZeroMeasurement.{ZeroMeasurement}
 use Rattle.package.specs.declared.Measured.{Measured}
 use Rattle.rules.specs.Refusals.{Rule, first}
-use Rattle.rules.specs.Results.{refusedResults, written}
-use Rattle.rules.specs.Calls.{room}
+use Rattle.rules.specs.Tool.{deviation, verdict, branch, branchNumber, toolArguments, toolRecords, toolDone}
+use Rattle.rules.specs.Zero.{zeroArguments, zeroRecords, zeroDone}
+use Rattle.rules.specs.Results.{toolResults, zeroResults, refusedResults, written}
+use Rattle.rules.specs.Calls.{room, refusal, step}
+use Rattle.rules.specs.Measuring.{toolMeasured, toolArray, zeroMeasured, zeroArray}
 use Rattle.results.specs.Results.{refusedOutcome, answerOf}
 use Rattle.results.specs.declared.Outcome.{Outcome}
+use Rattle.tool_offset.specs.Tool.{toolOutcome}
+use Rattle.zero_offset.specs.Zero.{zeroOutcome}
 
 abbrev pub noRoom : Package → Measured
 noRoom p = record { after = p; refusal = 1; branch = 0; verdict = 0 }
@@ -65,13 +72,34 @@ module _ (p q : Package) (rs : List Rule) (branch verdict : ℕ) (array : List �
   abbrev found : ℕ
   found = first (room array place ∷ rs)
 
-  pub no-room : leb (place + 42) (length array) ≡ false → (noRoom p ≡ measured found) × (array ≡ left found)
+  no-room : leb (place + 42) (length array) ≡ false → (noRoom p ≡ measured found) × (array ≡ left found)
   no-room h = (rw h, rw h)
 
-  pub with-room : leb (place + 42) (length array) ≡ true → Later rs
+  with-room : leb (place + 42) (length array) ≡ true → Later rs
       → (answerOf (outcome (first rs)) ≡ measured found) × (written array place (outcome (first rs) .numbers) ≡ left found)
   with-room h t = rw h (go (first rs) (not-one rs t))
     where
       go : (n : ℕ) → (n ≡ 1 → ⊥) → (answerOf (outcome n) ≡ measured n) × (written array place (outcome n .numbers) ≡ left n)
       go zero f = (refl, refl)
       go (suc n) f = let e = ne-eqb (suc n) 0 (λ q. omega arith) in (rw e, rw (e, ne-eqb (suc n) 1 f))
+
+-- ---- of a measurement with tool offset, and of one with zero offset
+module _ (p : Package) (a : ToolMeasurement) (array : List ℤ) (place : ℕ) where
+  pub tool-no-room : leb (place + 42) (length array) ≡ false → (noRoom p ≡ toolMeasured p a array place) × (array ≡ toolArray p a array place)
+  unfolding toolMeasured toolArray step refusal
+  tool-no-room h = no-room p (toolDone p a) (toolArguments a ++ toolRecords p a) (branchNumber (branch p a)) (verdict (a .limits) (deviation p a)) array place (toolResults p a) h
+
+  pub tool-with-room : leb (place + 42) (length array) ≡ true
+      → (answerOf (toolOutcome p a) ≡ toolMeasured p a array place) × (written array place (toolOutcome p a .numbers) ≡ toolArray p a array place)
+  unfolding toolMeasured toolArray step refusal toolOutcome toolArguments toolRecords
+  tool-with-room h = with-room p (toolDone p a) (toolArguments a ++ toolRecords p a) (branchNumber (branch p a)) (verdict (a .limits) (deviation p a)) array place (toolResults p a) h tt
+
+module _ (p : Package) (a : ZeroMeasurement) (array : List ℤ) (place : ℕ) where
+  pub zero-no-room : leb (place + 42) (length array) ≡ false → (noRoom p ≡ zeroMeasured p a array place) × (array ≡ zeroArray p a array place)
+  unfolding zeroMeasured zeroArray step refusal
+  zero-no-room h = no-room p (zeroDone p a) (zeroArguments a ++ zeroRecords p a) 6 0 array place (zeroResults p a) h
+
+  pub zero-with-room : leb (place + 42) (length array) ≡ true
+      → (answerOf (zeroOutcome p a) ≡ zeroMeasured p a array place) × (written array place (zeroOutcome p a .numbers) ≡ zeroArray p a array place)
+  unfolding zeroMeasured zeroArray step refusal zeroOutcome zeroArguments zeroRecords
+  zero-with-room h = with-room p (zeroDone p a) (zeroArguments a ++ zeroRecords p a) 6 0 array place (zeroResults p a) h tt

@@ -30,13 +30,21 @@ fn no_room(p: Package) -> Measured
     }
 }
 
-// Writes the 42 numbers of an outcome from place on, and answers.
+// Writes 42 numbers that begin at place. No call of a user.
+pub fn write_results(numbers: [i32; 42], array: &mut [i32], place: usize)
+    requires { ⌜ place + 42 ≤ length (now array) ⌝ }
+    ensures { λ _. ⌜ now (array .exit) ≡ written (now (array .entry)) place numbers ⌝ }
+{
+    write_numbers(numbers, &mut array[place..]);
+}
+
+// Writes the 42 numbers of an outcome, and answers.
 fn hand_over(o: Outcome, array: &mut [i32], place: usize) -> Measured
     requires { ⌜ place + 42 ≤ length (now array) ⌝ }
     ensures { λ r. ⌜ (r ≡ answerOf o) × (now (array .exit) ≡ written (now (array .entry)) place (o .numbers)) ⌝ }
 {
     let numbers = o.numbers;
-    write_numbers(numbers, &mut array[place..]);
+    write_results(numbers, array, place);
     answer_of(o)
 }
 

@@ -1,36 +1,17 @@
 use mathlib.Core.Path.{_≡_, ap, _∙_}
-use mathlib.Core.Bool.{true, false}
-use mathlib.Core.List.{List, _++_}
-use Prim.Native.Nat.{ℕ, _+_}
+use mathlib.Core.Bool.{true}
+use Prim.Native.Nat.{_+_}
 use native.Mathlib.Omega.{arith}
 use lib.Dec.{leb}
-use lib.IntN.{ℤ}
 use lib.ListN.{length}
 use borrow.Author.Tests.{leb-true}
 use borrow.Author.Needs.{needs}
 use Rattle.signed.specs.CodeLaws.{failed, passed}
-use Rattle.package.specs.declared.Package.{Package}
-use Rattle.package.specs.declared.ZeroMeasurement.{ZeroMeasurement}
-use Rattle.rules.specs.Zero.{zeroArguments, zeroRecords, zeroDone}
-use Rattle.rules.specs.Results.{zeroResults, written}
-use Rattle.rules.specs.Calls.{refusal, step}
-use Rattle.rules.specs.Measuring.{zeroMeasured, zeroArray}
+use Rattle.rules.specs.Results.{written}
 use Rattle.results.specs.Results.{answerOf}
-use Rattle.zero_offset.specs.Zero.{zeroOutcome}
-use Rattle.measuring.specs.CallLaws.{noRoom, no-room, with-room}
+use Rattle.measuring.specs.CallLaws.{zero-no-room, zero-with-room}
 use Rattle.measuring.proofs.measure_zero.Statement.{statement}
 use Rattle.measuring.proofs.measure_zero.Tie as tie
-
-module _ (p : Package) (a : ZeroMeasurement) (array : List ℤ) (place : ℕ) where
-  refused : leb (place + 42) (length array) ≡ false
-      → (noRoom p ≡ zeroMeasured p a array place) × (array ≡ zeroArray p a array place)
-  unfolding zeroMeasured zeroArray step refusal
-  refused h = no-room p (zeroDone p a) (zeroArguments a ++ zeroRecords p a) 6 0 array place (zeroResults p a) h
-
-  measured : leb (place + 42) (length array) ≡ true
-      → (answerOf (zeroOutcome p a) ≡ zeroMeasured p a array place) × (written array place (zeroOutcome p a .numbers) ≡ zeroArray p a array place)
-  unfolding zeroMeasured zeroArray step refusal zeroOutcome zeroArguments zeroRecords
-  measured h = with-room p (zeroDone p a) (zeroArguments a ++ zeroRecords p a) 6 0 array place (zeroResults p a) h tt
 
 has-room-requires : tie.Need-has-room-requires
 has-room-requires c κs = search needs
@@ -42,7 +23,7 @@ returns : tie.Need-returns
 returns c =
     let t = c .before in
     let s = t .before .before in
-    let r = refused (s .args .p) (s .args .a) (s .args .results .now) (s .args .place) (failed (t .before .has-room .ensures) (t .if1 .taken)) in
+    let r = zero-no-room (s .args .p) (s .args .a) (s .args .results .now) (s .args .place) (failed (t .before .has-room .ensures) (t .if1 .taken)) in
     (c .no-room .ensures ∙ r .0, r .1)
 
 room : (c : tie.Else1) → let s = c .before .before in leb (s .args .place + 42) (length (s .args .results .now)) ≡ true
@@ -66,7 +47,7 @@ returns-2 c =
     let o = c .before .before .before .zero-outcome in
     let e = c .before .before .before .before in
     let s = e .before .before in
-    let m = measured (s .args .p) (s .args .a) (s .args .results .now) (s .args .place) (room e) in (
+    let m = zero-with-room (s .args .p) (s .args .a) (s .args .results .now) (s .args .place) (room e) in (
       h .ensures .0 ∙ ap answerOf (o .ensures) ∙ m .0,
       h .ensures .1 ∙ ap (λ o. written (s .args .results .now) (s .args .place) (o .numbers)) (o .ensures) ∙ m .1,
     )
