@@ -18,10 +18,12 @@ use package::Wear;
 use signed::in_range;
 use signed::index;
 ghost use mathlib.Core.Path.{_≡_};
+ghost use mathlib.Core.Bool.{cond};
 ghost use mathlib.Core.List.{_++_};
 ghost use Prim.Native.Nat.{_≤_, _<_};
+ghost use lib.Dec.{leb};
 ghost use lib.ListN.{length, drop};
-ghost use Rattle.rules.specs.Block.{word, code, words, octets, saved};
+ghost use Rattle.rules.specs.Block.{word, code, words, octets, blockOf, saveRules, saved};
 ghost use Rattle.rules.specs.Stores.{offsetRange};
 ghost use Rattle.rules.specs.Refusals.{first};
 ghost use Rattle.rules.specs.Settings.{empiricalRules, wearRules, offsetRules};
@@ -196,17 +198,25 @@ pub fn load(p: Package, bytes: &[u8]) -> Answer
     }
 }
 
-// Writes the block of all empirical and mean values to the front of the buffer.
-pub fn save(p: Package, buffer: &mut [u8]) -> u32
-    ensures { λ r. ⌜ (r ≡ refusal p (save (now (buffer .entry)))) × (now (buffer .exit) ≡ saved p (now (buffer .entry))) ⌝ }
+// Writes the block of empirical and mean values to the front of the buffer. No call of a user.
+pub fn save_memory(memory: Memory, buffer: &mut [u8]) -> u32
+    ensures { λ r. ⌜ r ≡ first (saveRules (now (buffer .entry))) ⌝ }
+    ensures { λ _. ⌜ now (buffer .exit) ≡ cond (leb 80 (length (now (buffer .entry)))) (blockOf memory ++ drop 80 (now (buffer .entry))) (now (buffer .entry)) ⌝ }
 {
     if buffer.len() < 80 {
         return NO_ROOM;
     }
-    let memory = p.memory;
     let empirical = memory.empirical;
     let means = memory.means;
     write_words(empirical, &mut buffer[..]);
     write_words(means, &mut buffer[40..]);
     DONE
+}
+
+// Writes the block of all empirical and mean values to the front of the buffer.
+pub fn save(p: Package, buffer: &mut [u8]) -> u32
+    ensures { λ r. ⌜ (r ≡ refusal p (save (now (buffer .entry)))) × (now (buffer .exit) ≡ saved p (now (buffer .entry))) ⌝ }
+{
+    let memory = p.memory;
+    save_memory(memory, buffer)
 }
