@@ -1,14 +1,24 @@
--- Numbers of the area as the code holds them.
-use mathlib.Core.Path.{_≡_, _∙_}
+-- Numbers of the area and of its values as the code holds them.
+use mathlib.Core.Path.{_≡_, refl, _∙_}
 use mathlib.Core.Bool.{true}
-use Prim.Native.Nat.{_<_, _^_}
-use lib.IntN.{ℤ}
+use Prim.Native.Nat.{zero, suc, _<_, _^_}
+use native.Mathlib.Omega.{arith}
+use lib.IntN.{ℤ, pos, negsuc}
 use lib.Signed.{mag}
 use mir.Syntax.{w16, w32, w64}
 use mir.Val.{SFits, toZ, ofZ}
 use mir.Facts.{toZ-ofZ, sfits-widen}
+use borrow.Author.Tests.{le-leb}
 use Rattle.signed.specs.Ranges.{within, nearestIn}
-use Rattle.signed.specs.RangeLaws.{nearest-within}
+use Rattle.signed.specs.RangeLaws.{true-T, nearest-within}
+use Rattle.rules.specs.Stores.{valueNumber}
+use Rattle.rules.specs.Tool.{namedOrNone}
+
+-- a number whose bits are not 0 names a value
+pub names : (n : ℤ) → namedOrNone n ≡ true → (ofZ w64 n ≡ 0 → ⊥) → valueNumber n ≡ true
+names (pos zero) e h = absurd (h refl)
+names (pos (suc i)) e h = rw (le-leb 1 (suc i) (omega arith)) (rw (le-leb 0 (suc i) (omega arith)) at e)
+names (negsuc i) e h = absurd (true-T e)
 
 -- a number of the area as i64, and the nearest to it of a range
 module _ {v : ℤ} (f : SFits w32 v) where

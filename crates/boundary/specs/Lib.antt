@@ -4,4 +4,5 @@ pub mod LoopLaws
 pub mod Exports
 pub mod ExportLaws
 pub mod ReplacedLaws
+pub mod RecordLaws
 pub mod RenewedLaws

@@ -4,14 +4,14 @@ use mathlib.Core.Bool.{Bool, true, false, cond}
 use mathlib.Core.List.{List, [], _∷_, _++_, append-assoc, map}
 use Prim.Native.Nat.{ℕ, zero, suc, _+_, _*_, _≤_, _<_}
 use native.Mathlib.Omega.{arith}
-use lib.Dec.{eqb, leb→le}
+use lib.Dec.{eqb}
 use lib.IntN.{ℤ, pos, negsuc}
-use lib.ListN.{length, set, take, drop, length-append, length-take, length-drop, length-map}
-use lib.Seq.{getD-set-same, length-take-le}
+use lib.ListN.{length, set, take, drop, length-append, length-take, length-drop}
+use lib.Seq.{length-take-le}
 use lib.Signed.{ltZ}
 use borrow.Author.Tests.{ne-eqb, eq-eqb, eqb-true}
-use Rattle.signed.specs.Ranges.{minus, within, size}
-use Rattle.signed.specs.RangeLaws.{true-T, ≤ℤ-trans, within-is, is-within, below-top, nearest-within, nearest-itself}
+use Rattle.signed.specs.Ranges.{minus, size}
+use Rattle.signed.specs.RangeLaws.{true-T, below-top, nearest-within, nearest-itself}
 use Rattle.lists.specs.Each.{Each, each-take, each-drop}
 use Rattle.package.specs.declared.Package.{Package}
 use Rattle.package.specs.declared.Probe.{Probe}
@@ -19,7 +19,7 @@ use Rattle.package.specs.declared.Wear.{Wear}
 use Rattle.package.specs.declared.Offset.{Offset}
 use Rattle.package.specs.declared.Calibration.{Calibration}
 use Rattle.package.specs.declared.ToolMeasurement.{ToolMeasurement}
-use Rattle.rules.specs.Stores.{pick, put, probeNumber, toolNumber, offsetNumber, valueNumber, valueRange, probeOf, wearOf, withProbe, withMemory, withWear, withOffset}
+use Rattle.rules.specs.Stores.{put, probeNumber, toolNumber, offsetNumber, valueRange, probeOf, wearOf, withProbe, withMemory, withWear, withOffset}
 use Rattle.rules.specs.StoreLaws.{length-put, pick-any}
 use Rattle.rules.specs.Probes.{placeOf}
 use Rattle.rules.specs.ProbeLaws.{numbers-are, calibrated-status}
@@ -34,31 +34,13 @@ use Rattle.rules.specs.InRangeKept.{left-in-range, at-most}
 use Rattle.rules.specs.Calls.{Call, setEmpirical, setWear, setOffset, calibrate, readStatus, measureTool, measureZero, load, save, rules, refusal, done, step}
 use Rattle.boundary.specs.Area.{probesAt, empiricalAt, meansAt, toolsAt, offsetsAt, probeNumbers, wearNumbers, offsetNumbers, packed, valueFrom, probeFrom, wearFrom, offsetFrom, store, section, unpacked}
 use Rattle.boundary.specs.AreaLaws.{ProbeTyped, OffsetTyped, Back, probe-back, values-back, section-front, section-past, together, packed-long, unpack-pack, in-range-typed}
-use Rattle.boundary.specs.LoopLaws.{store-length}
 use Rattle.boundary.specs.Exports.{replaced, replacedAt, valueRenewed, toolRenewed, offsetRenewed, renewedBy, renewed, called}
 use Rattle.boundary.specs.ReplacedLaws.{length-replaced, section-before, section-after, section-within, map-replaced, grows, store-replaced, probe-at}
-
--- ---- a value that is named, or none
-pub named : (n : ℤ) → valueNumber n ≡ true → namedOrNone n ≡ true
-named n e =
-    let b = within-is (pos 1) (pos 20) n e in
-    is-within (pos 0) (pos 20) n (≤ℤ-trans (pos 0) (pos 1) n (record { le = tt }) (b .0)) (b .1)
-
-named-below : (i : ℕ) → namedOrNone (pos (suc i)) ≡ true → i < 20
-named-below i e = leb→le (suc i) 20 (within-is (pos 0) (pos 20) (pos (suc i)) e .1 .le)
-
--- ---- an entry that was replaced
-pick-put : {A : Type 0} (d : A) (xs : List A) (n : ℤ) (a : A) (top : ℕ) → length xs ≡ top → within (pos 1) (pos top) n ≡ true → pick d (put xs n a) n ≡ a
-pick-put d xs (pos zero) a top k e = absurd (true-T e)
-pick-put d xs (pos (suc i)) a top k e = getD-set-same xs i a d (omega (arith, below-top i top e))
-pick-put d xs (negsuc i) a top k e = absurd (true-T e)
+use Rattle.boundary.specs.RecordLaws.{named, named-below, probes-long, tools-long, offsets-long, section-long, values-long, empirical-long, means-long, probe-put, wear-put, offset-put, value-put}
 
 module _ (zs : List ℤ) (whole : length zs ≡ 137) where
   abbrev p : Package
   p = unpacked zs
-
-  section-long : (at n : ℕ) → at + n ≤ 137 → length (section at n zs) ≡ n
-  section-long at n h = simp (length-take, length-drop) (omega arith)
 
   -- ---- one record, in its own section
   store-within : {A : Type 0} (from : List ℤ → A) (at size count i : ℕ) (xs : List ℤ) → length xs ≡ size → i < count → at + size * count ≤ 137
@@ -66,7 +48,7 @@ module _ (zs : List ℤ) (whole : length zs ≡ 137) where
   store-within from at size count i xs e h k =
       let g = grows size i count h in
       ap (store from size count) (section-within zs at (size * count) (size * i) xs (omega arith) (omega arith))
-      ∙ store-replaced from size count (section at (size * count) zs) i xs e h (omega (arith, section-long at (size * count) k))
+      ∙ store-replaced from size count (section at (size * count) zs) i xs e h (omega (arith, section-long zs whole at (size * count) k))
 
   value-within : (at i : ℕ) (z : ℤ) → i < 20 → at + 20 ≤ 137 → valueRange z ≡ true
       → map valueFrom (section at 20 (replaced zs (at + 1 * i) (z ∷ []))) ≡ set (map valueFrom (section at 20 zs)) i z
@@ -74,7 +56,7 @@ module _ (zs : List ℤ) (whole : length zs ≡ 137) where
       let one : 1 * i ≡ i = omega arith in
       rw one
       (ap (map valueFrom) (section-within zs at 20 i (z ∷ []) (omega arith) (omega arith))
-      ∙ map-replaced valueFrom (section at 20 zs) i z (omega (arith, section-long at 20 k))
+      ∙ map-replaced valueFrom (section at 20 zs) i z (omega (arith, section-long zs whole at 20 k))
       ∙ ap (set (map valueFrom (section at 20 zs)) i) (nearest-itself (minus 32768) (pos 32767) z r))
 
   probe-left : (n : ℤ) (x : Probe) → probeNumber n ≡ true → Back probeFrom probeNumbers 7 x → unpacked (replacedAt zs probesAt 7 n (probeNumbers x)) ≡ withProbe p n x
@@ -167,22 +149,9 @@ module _ (zs : List ℤ) (whole : length zs ≡ 137) where
       (ap (store wearFrom 2 32) (section-before zs k xs room 61 64 (omega arith)))
       (store-within offsetFrom 125 3 4 i xs n h (omega arith))
 
-  -- ---- the stores are as long as their numbers are many
-  probes-long : length (p .probes) ≡ 3
-  unfolding unpacked
-  probes-long = store-length probeFrom 7 3 (section 0 21 zs)
-
-  tools-long : length (p .tools) ≡ 32
-  unfolding unpacked
-  tools-long = store-length wearFrom 2 32 (section 61 64 zs)
-
-  offsets-long : length (p .offsets) ≡ 4
-  unfolding unpacked
-  offsets-long = store-length offsetFrom 3 4 (section 125 12 zs)
-
   offset-set : (n : ℤ) (x : Offset) → offsetNumber n ≡ true → OffsetTyped x → unpacked (offsetRenewed zs (withOffset p n x) n) ≡ withOffset p n x
   offset-set n x e t =
-      ap (λ (y : Offset). unpacked (replacedAt zs offsetsAt 3 n (offsetNumbers y))) (pick-put _ (p .offsets) n x 4 offsets-long e) ∙ offset-left n x e t
+      ap (λ (y : Offset). unpacked (replacedAt zs offsetsAt 3 n (offsetNumbers y))) (offset-put p n x (offsets-long zs) e) ∙ offset-left n x e t
 
   block-left : (es ms : List ℤ) → Values es → Values ms → unpacked (replaced zs empiricalAt (es ++ ms)) ≡ withMemory p (record { empirical = es; means = ms })
   unfolding unpacked
@@ -203,7 +172,7 @@ module _ (zs : List ℤ) (whole : length zs ≡ 137) where
   -- ---- what the rules that passed tell of the new records
   values-typed : (at : ℕ) → at + 20 ≤ 137 → Values (map valueFrom (section at 20 zs))
   values-typed at h =
-      record { long = length-map (section at 20 zs) valueFrom ∙ section-long at 20 h; entries = each-nearest (section at 20 zs) }
+      record { long = values-long zs whole at h; entries = each-nearest (section at 20 zs) }
     where
       each-nearest : (xs : List ℤ) → Each (λ z. valueRange z ≡ true) (map valueFrom xs)
       each-nearest [] = tt
@@ -236,20 +205,6 @@ module _ (zs : List ℤ) (whole : length zs ≡ 137) where
       left-in-range (a .limits) _ (oldMean p a) (newMean p a) (deviation p a) (at-most (a .limits .tzl) (a .limits .tmv) (l .chain .1 .0) (l .mean))
       (pick-any (pos 0) (a .mv) refl (values-typed 41 (omega arith)))
 
-  empirical-long : length (p .memory .empirical) ≡ 20
-  unfolding unpacked
-  empirical-long = values-typed 21 (omega arith) .long
-
-  means-long : length (p .memory .means) ≡ 20
-  unfolding unpacked
-  means-long = values-typed 41 (omega arith) .long
-
-  -- a value as the store after the call has it
-  value-put : (at : ℕ) (values : List ℤ) (n z : ℤ) → length values ≡ 20 → namedOrNone n ≡ true → valueRenewed zs at (put values n z) n ≡ replacedAt zs at 1 n (z ∷ [])
-  value-put at values (pos zero) z k e = refl
-  value-put at values (negsuc i) z k e = refl
-  value-put at values (pos (suc i)) z k e = ap (λ (v : ℤ). replacedAt zs at 1 (pos (suc i)) (v ∷ [])) (getD-set-same values i z (pos 0) (omega (arith, named-below i e)))
-
 tool-measured : (zs : List ℤ) → length zs ≡ 137 → (a : ToolMeasurement) → toolNumbers a ≡ true → limitsOk (a .limits) ≡ true →
     let q = toolDone (unpacked zs) a in
     unpacked (toolRenewed (valueRenewed zs meansAt (q .memory .means) (a .mv)) q (a .tool)) ≡ q
@@ -260,8 +215,8 @@ tool-measured zs whole a n l =
     let w = correctedWear p a (wearOf p (a .tool)) in
     let values = replacedAt zs meansAt 1 (a .mv) (m ∷ []) in
     ap₂ (λ (ys : List ℤ) (x : Wear). unpacked (replacedAt ys toolsAt 2 (a .tool) (wearNumbers x)))
-    (value-put zs whole meansAt (p .memory .means) (a .mv) m (means-long zs whole) (t .mv))
-    (pick-put _ (p .tools) (a .tool) w 32 (tools-long zs whole) (t .tool))
+    (value-put zs meansAt (p .memory .means) (a .mv) m (means-long zs whole) (t .mv))
+    (wear-put p (a .tool) w (tools-long zs) (t .tool))
     ∙ tool-left values (mean-long zs whole (a .mv) m (t .mv)) (a .tool) w (t .tool)
     ∙ ap (λ (r : Package). withWear r (a .tool) w) (mean-left zs whole (a .mv) m (t .mv) (mean-typed zs whole a l))
 
@@ -270,13 +225,13 @@ unfolding renewedBy refusal calibrationArguments calibrationRecords toolArgument
 renewed-done zs whole (setEmpirical ev value) b e =
     let p = unpacked zs in
     let t = all-passed (rules p (setEmpirical ev value)) tt e in
-    ap unpacked (value-put zs whole empiricalAt (p .memory .empirical) ev value (empirical-long zs whole) (named ev (t .0)))
+    ap unpacked (value-put zs empiricalAt (p .memory .empirical) ev value (empirical-long zs whole) (named ev (t .0)))
     ∙ empirical-left zs whole ev value (named ev (t .0)) (t .1 .0)
 renewed-done zs whole (setWear tool radius length) b e =
     let p = unpacked zs in
     let t = all-passed (rules p (setWear tool radius length)) tt e in
     let x : Wear = record { radius = radius; length = length } in
-    ap (λ (w : Wear). unpacked (replacedAt zs toolsAt 2 tool (wearNumbers w))) (pick-put _ (p .tools) tool x 32 (tools-long zs whole) (t .0))
+    ap (λ (w : Wear). unpacked (replacedAt zs toolsAt 2 tool (wearNumbers w))) (wear-put p tool x (tools-long zs) (t .0))
     ∙ tool-left zs whole tool x (t .0)
 renewed-done zs whole (setOffset offset v1 v2 v3) b e =
     let p = unpacked zs in
@@ -287,7 +242,7 @@ renewed-done zs whole (calibrate a) b e =
     let t = all-passed (rules p (calibrate a)) tt e in
     let n = numbers-are a (t .0) .0 in
     let x = calibratedProbe (probeOf p (a .probe)) a in
-    ap (λ (y : Probe). unpacked (replacedAt zs probesAt 7 (a .probe) (probeNumbers y))) (pick-put _ (p .probes) (a .probe) x 3 (probes-long zs whole) n)
+    ap (λ (y : Probe). unpacked (replacedAt zs probesAt 7 (a .probe) (probeNumbers y))) (probe-put p (a .probe) x (probes-long zs) n)
     ∙ probe-left zs whole (a .probe) x n (probe-back x (calibrated-typed zs whole a (t .0)))
 renewed-done zs whole (readStatus probe) b e = refl
 renewed-done zs whole (measureTool a array place) b e =

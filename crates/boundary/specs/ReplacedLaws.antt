@@ -7,12 +7,14 @@ use native.Mathlib.Nat.{not-suc-le-zero, le-of-suc-le-suc}
 use native.Mathlib.Numerals.{add-one}
 use native.Mathlib.Omega.{arith}
 use lib.IntN.{ℤ, pos}
-use lib.ListN.{length, set, take, drop, length-append, length-drop}
-use lib.Seq.{set-split, getD-set-same, take-take, take-add, take-at, drop-at, take-append-le, take-append-add, drop-append-le, drop-drop, length-take-le}
+use lib.ListN.{length, getD, set, take, drop, length-append, length-drop, List·getD-map}
+use lib.Seq.{set-split, getD-set-same, getD-take, getD-drop, take-take, take-add, take-at, drop-at, take-append-le, take-append-add, drop-append-le, drop-drop, length-take-le}
 use borrow.Rule.Slice.PartMut.{putMid}
+use Rattle.signed.specs.Ranges.{minus}
+use Rattle.signed.specs.RangeLaws.{nearest-itself}
 use Rattle.package.specs.declared.Probe.{Probe}
 use Rattle.rules.specs.Stores.{probeOf, withProbe}
-use Rattle.boundary.specs.Area.{probeNumbers, probeFrom, store, section, unpacked}
+use Rattle.boundary.specs.Area.{probeNumbers, valueFrom, probeFrom, store, section, unpacked}
 use Rattle.boundary.specs.LoopLaws.{store-length, store-at}
 use Rattle.boundary.specs.Exports.{replaced, probeRenewed}
 
@@ -31,12 +33,37 @@ part-of zs (suc at) k zero h = absurd (omega arith)
 part-of [] (suc at) k (suc n) h = refl
 part-of (z ∷ zs) (suc at) k (suc n) h = part-of zs at k n (omega arith)
 
+pub grows : (size i count : ℕ) → i < count → size * i + size ≤ size * count
+grows size i count h =
+    let e : count ≡ suc i + (count - suc i) = omega arith in
+    rw e (omega arith)
+
+-- ---- a record of a section, as the code reads it from a place k on, and a value
+module _ {A : Type 0} (from : List ℤ → A) (size : ℕ) where
+  pub record-at : (zs : List ℤ) (at count i k : ℕ) (d : A) → k ≡ at + size * i → i < count
+      → from (take (k + size - k) (drop k zs)) ≡ getD (store from size count (section at (size * count) zs)) i d
+  record-at zs at count i k d e h =
+      let n : k + size - k ≡ size = omega arith in
+      rw (
+        n,
+        e,
+        store-at from size count (section at (size * count) zs) i d h,
+        part-of (drop at zs) (size * i) size (size * count) (grows size i count h),
+        drop-drop (size * i) at zs,
+      )
+
+pub value-at : (zs : List ℤ) (at i : ℕ) → i < 20 → valueFrom (getD zs (at + i) (pos 0)) ≡ getD (map valueFrom (section at 20 zs)) i (pos 0)
+value-at zs at i h =
+    let none : valueFrom (pos 0) ≡ pos 0 = nearest-itself (minus 32768) (pos 32767) (pos 0) refl in
+    sym
+    (ap (getD (map valueFrom (section at 20 zs)) i) (sym none)
+    ∙ List·getD-map valueFrom (section at 20 zs) i (pos 0)
+    ∙ ap valueFrom (getD-take 20 (drop at zs) i (pos 0) h ∙ getD-drop at zs i (pos 0)))
+
 -- ---- a probe
 pub probe-at : (zs : List ℤ) (i : ℕ) → i < 3 → probeFrom (take (7 * i + 7 - 7 * i) (drop (7 * i) zs)) ≡ probeOf (unpacked zs) (pos (suc i))
 unfolding unpacked
-probe-at zs i h =
-    let e : 7 * i + 7 - 7 * i ≡ 7 = omega arith in
-    rw (e, store-at probeFrom 7 3 (take 21 zs) i (record { triggers = []; status = 0 }) h, part-of zs (7 * i) 7 21 (omega arith))
+probe-at zs i h = record-at probeFrom 7 zs 0 3 i (7 * i) (record { triggers = []; status = 0 }) (omega arith) h
 
 pub probe-renewed : (zs : List ℤ) (i : ℕ) (x : Probe) → i < 3 →
     replaced zs (7 * i) (probeNumbers x) ≡ probeRenewed zs (withProbe (unpacked zs) (pos (suc i)) x) (pos (suc i))
@@ -110,11 +137,6 @@ section-within zs at n j xs h k =
     ap (take n) (drop-replaced zs at j xs (omega arith)) ∙ take-replaced (drop at zs) n j xs h (simp length-drop (omega arith))
 
 -- ---- a record of a store, and a value of a list
-pub grows : (size i count : ℕ) → i < count → size * i + size ≤ size * count
-grows size i count h =
-    let e : count ≡ suc i + (count - suc i) = omega arith in
-    rw e (omega arith)
-
 map-set : {A B : Type 0} (f : A → B) (xs : List A) (i : ℕ) (x : A) → map f (set xs i x) ≡ set (map f xs) i (f x)
 map-set f [] i x = refl
 map-set f (y ∷ ys) zero x = refl

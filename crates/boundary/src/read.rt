@@ -11,11 +11,17 @@ use package::Probe;
 use package::VALUE_GREATEST;
 use package::VALUE_LEAST;
 use package::Wear;
+use signed::index;
 use signed::nearest_in;
 ghost use mathlib.Core.Path.{_≡_};
+ghost use mathlib.Core.Bool.{true};
 ghost use mathlib.Core.List.{map};
+ghost use Prim.Native.Nat.{_≤_, _+_};
+ghost use lib.IntN.{pos};
 ghost use lib.ListN.{length};
-ghost use Rattle.boundary.specs.Area.{valueFrom, statusFrom, probeFrom, wearFrom, offsetFrom, store, unpacked};
+ghost use Rattle.rules.specs.Stores.{pick, probeNumber, toolNumber, offsetNumber, probeOf, wearOf, offsetOf};
+ghost use Rattle.rules.specs.Tool.{namedOrNone};
+ghost use Rattle.boundary.specs.Area.{valueFrom, statusFrom, probeFrom, wearFrom, offsetFrom, store, section, unpacked};
 
 // The empirical or mean value of a number.
 fn value_from(v: i32) -> i16
@@ -45,6 +51,18 @@ fn read_values(part: &[i32]) -> [i16; 20]
     values
 }
 
+// One of the 20 values of the section that starts at a place; number 0 names none. No call of a user.
+pub fn value_at(area: &[i32], at: usize, n: i64) -> i16
+    requires { ⌜ at + 20 ≤ length (now area) ⌝ }
+    requires { ⌜ namedOrNone n ≡ true ⌝ }
+    ensures { λ r. ⌜ r ≡ pick (pos 0) (map valueFrom (section at 20 (now (area .entry)))) n ⌝ }
+{
+    if n == 0 {
+        return 0;
+    }
+    value_from(area[at + index(n)])
+}
+
 // The probe of 7 numbers. No call of a user.
 pub fn read_probe(part: &[i32]) -> Probe
     requires { ⌜ length (now part) ≡ 7 ⌝ }
@@ -54,6 +72,16 @@ pub fn read_probe(part: &[i32]) -> Probe
         triggers: [part[0], part[1], part[2], part[3], part[4], part[5]],
         status: status_from(part[6]),
     }
+}
+
+// One probe of an area. No call of a user.
+pub fn probe_at(area: &[i32], probe: i64) -> Probe
+    requires { ⌜ length (now area) ≡ 137 ⌝ }
+    requires { ⌜ probeNumber probe ≡ true ⌝ }
+    ensures { λ r. ⌜ r ≡ probeOf (unpacked (now (area .entry))) probe ⌝ }
+{
+    let at = 7 * index(probe);
+    read_probe(&area[at..at + 7])
 }
 
 // The probes of 21 numbers.
@@ -86,6 +114,16 @@ fn read_wear(part: &[i32]) -> Wear
     }
 }
 
+// One tool's wears of an area. No call of a user.
+pub fn wear_at(area: &[i32], tool: i64) -> Wear
+    requires { ⌜ length (now area) ≡ 137 ⌝ }
+    requires { ⌜ toolNumber tool ≡ true ⌝ }
+    ensures { λ r. ⌜ r ≡ wearOf (unpacked (now (area .entry))) tool ⌝ }
+{
+    let at = TOOLS + 2 * index(tool);
+    read_wear(&area[at..at + 2])
+}
+
 // The tools of 64 numbers.
 fn read_tools(part: &[i32]) -> [Wear; 32]
     requires { ⌜ length (now part) ≡ 64 ⌝ }
@@ -113,6 +151,16 @@ fn read_offset(part: &[i32]) -> Offset
     Offset {
         axes: [part[0], part[1], part[2]],
     }
+}
+
+// One zero offset of an area. No call of a user.
+pub fn offset_at(area: &[i32], offset: i64) -> Offset
+    requires { ⌜ length (now area) ≡ 137 ⌝ }
+    requires { ⌜ offsetNumber offset ≡ true ⌝ }
+    ensures { λ r. ⌜ r ≡ offsetOf (unpacked (now (area .entry))) offset ⌝ }
+{
+    let at = OFFSETS + 3 * index(offset);
+    read_offset(&area[at..at + 3])
 }
 
 // The zero offsets of 12 numbers.

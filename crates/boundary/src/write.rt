@@ -12,14 +12,14 @@ use records::decode;
 use signed::index;
 ghost use mathlib.Core.Path.{_≡_};
 ghost use mathlib.Core.Bool.{true};
-ghost use mathlib.Core.List.{flatMap};
+ghost use mathlib.Core.List.{[], _∷_, flatMap};
 ghost use Prim.Native.Nat.{_≤_, _+_};
 ghost use lib.ListN.{length};
 ghost use Rattle.rules.specs.Block.{words};
 ghost use Rattle.rules.specs.Stores.{toolNumber, offsetNumber};
 ghost use Rattle.rules.specs.Tool.{namedOrNone};
-ghost use Rattle.boundary.specs.Area.{probeNumbers, wearNumbers, offsetNumbers, packed};
-ghost use Rattle.boundary.specs.Exports.{valueRenewed, toolRenewed, offsetRenewed};
+ghost use Rattle.boundary.specs.Area.{toolsAt, offsetsAt, probeNumbers, wearNumbers, offsetNumbers, packed};
+ghost use Rattle.boundary.specs.Exports.{replacedAt, valueRenewed, toolRenewed, offsetRenewed};
 
 // Copies numbers to a part as long as they are.
 fn copy_numbers(numbers: &[i32], part: &mut [i32])
@@ -135,6 +135,37 @@ pub fn pack(p: Package, area: &mut [i32])
     write_values(means, &mut area[MEANS..TOOLS]);
     write_tools(tools, &mut area[TOOLS..OFFSETS]);
     write_offsets(offsets, &mut area[OFFSETS..AREA]);
+}
+
+// Writes one value to the section of 20 that starts at a place; number 0 names none. No call of a user.
+pub fn put_value(v: i16, n: i64, area: &mut [i32], at: usize)
+    requires { ⌜ at + 20 ≤ length (now area) ⌝ }
+    requires { ⌜ namedOrNone n ≡ true ⌝ }
+    ensures { λ _. ⌜ now (area .exit) ≡ replacedAt (now (area .entry)) at 1 n (v ∷ []) ⌝ }
+{
+    if n != 0 {
+        area[at + index(n)] = v as i32;
+    }
+}
+
+// Writes one tool's wears to an area. No call of a user.
+pub fn put_wear(x: Wear, tool: i64, area: &mut [i32])
+    requires { ⌜ length (now area) ≡ 137 ⌝ }
+    requires { ⌜ toolNumber tool ≡ true ⌝ }
+    ensures { λ _. ⌜ now (area .exit) ≡ replacedAt (now (area .entry)) toolsAt 2 tool (wearNumbers x) ⌝ }
+{
+    let at = TOOLS + 2 * index(tool);
+    write_wear(x, &mut area[at..at + 2]);
+}
+
+// Writes one zero offset to an area. No call of a user.
+pub fn put_offset(x: Offset, offset: i64, area: &mut [i32])
+    requires { ⌜ length (now area) ≡ 137 ⌝ }
+    requires { ⌜ offsetNumber offset ≡ true ⌝ }
+    ensures { λ _. ⌜ now (area .exit) ≡ replacedAt (now (area .entry)) offsetsAt 3 offset (offsetNumbers x) ⌝ }
+{
+    let at = OFFSETS + 3 * index(offset);
+    write_offset(x, &mut area[at..at + 3]);
 }
 
 // Writes one of 20 values to the section that starts at a place; number 0 names none. No call of a user.

@@ -18,55 +18,66 @@ use package::Wear;
 use signed::in_range;
 use signed::index;
 ghost use mathlib.Core.Path.{_≡_};
+ghost use mathlib.Core.Bool.{cond};
 ghost use mathlib.Core.List.{_++_};
 ghost use Prim.Native.Nat.{_≤_, _<_};
+ghost use lib.Dec.{leb};
 ghost use lib.ListN.{length, drop};
-ghost use Rattle.rules.specs.Block.{word, code, words, octets, saved};
+ghost use Rattle.rules.specs.Block.{word, code, words, octets, blockOf, saveRules, saved};
 ghost use Rattle.rules.specs.Stores.{offsetRange};
+ghost use Rattle.rules.specs.Refusals.{first};
+ghost use Rattle.rules.specs.Settings.{empiricalRules, wearRules, offsetRules};
 ghost use Rattle.rules.specs.Calls.{answered, refusal, setEmpirical, setWear, setOffset, load, save};
+
+// What refuses an empirical value. No call of a user.
+pub fn empirical_refusal(ev: i64, value: i64) -> u32
+    ensures { λ r. ⌜ r ≡ first (empiricalRules ev value) ⌝ }
+{
+    if !in_range(ev, 1, VALUES) {
+        return NO_SUCH_NUMBER;
+    }
+    if !in_range(value, VALUE_LEAST, VALUE_GREATEST) {
+        return OUTSIDE_RANGE;
+    }
+    DONE
+}
 
 // Replaces one empirical value.
 pub fn set_empirical(p: Package, ev: i64, value: i64) -> Answer
     ensures { λ r. ⌜ r ≡ answered p (setEmpirical ev value) ⌝ }
 {
-    if !in_range(ev, 1, VALUES) {
-        return Answer {
-            after: p,
-            refusal: NO_SUCH_NUMBER,
-        };
-    }
-    if !in_range(value, VALUE_LEAST, VALUE_GREATEST) {
-        return Answer {
-            after: p,
-            refusal: OUTSIDE_RANGE,
-        };
+    let refusal = empirical_refusal(ev, value);
+    if refusal != DONE {
+        return Answer { after: p, refusal };
     }
     let i = index(ev);
     let mut memory = p.memory;
     memory.empirical[i] = value as i16;
     let mut after = p;
     after.memory = memory;
-    Answer {
-        after,
-        refusal: DONE,
+    Answer { after, refusal }
+}
+
+// What refuses a tool's two wears. No call of a user.
+pub fn wear_refusal(tool: i64, radius: i64, length: i64) -> u32
+    ensures { λ r. ⌜ r ≡ first (wearRules tool radius length) ⌝ }
+{
+    if !in_range(tool, 1, TOOLS) {
+        return NO_SUCH_NUMBER;
     }
+    if !(in_range(radius, -WEAR_LIMIT, WEAR_LIMIT) & in_range(length, -WEAR_LIMIT, WEAR_LIMIT)) {
+        return OUTSIDE_RANGE;
+    }
+    DONE
 }
 
 // Replaces one tool's two wears.
 pub fn set_wear(p: Package, tool: i64, radius: i64, length: i64) -> Answer
     ensures { λ r. ⌜ r ≡ answered p (setWear tool radius length) ⌝ }
 {
-    if !in_range(tool, 1, TOOLS) {
-        return Answer {
-            after: p,
-            refusal: NO_SUCH_NUMBER,
-        };
-    }
-    if !(in_range(radius, -WEAR_LIMIT, WEAR_LIMIT) & in_range(length, -WEAR_LIMIT, WEAR_LIMIT)) {
-        return Answer {
-            after: p,
-            refusal: OUTSIDE_RANGE,
-        };
+    let refusal = wear_refusal(tool, radius, length);
+    if refusal != DONE {
+        return Answer { after: p, refusal };
     }
     let i = index(tool);
     let mut after = p;
@@ -74,10 +85,7 @@ pub fn set_wear(p: Package, tool: i64, radius: i64, length: i64) -> Answer
         radius: radius as i32,
         length: length as i32,
     };
-    Answer {
-        after,
-        refusal: DONE,
-    }
+    Answer { after, refusal }
 }
 
 // Whether a value is one of a zero offset.
@@ -87,31 +95,33 @@ fn offset_ok(v: i64) -> bool
     in_range(v, -OFFSET_LIMIT, OFFSET_LIMIT)
 }
 
+// What refuses a zero offset. No call of a user.
+pub fn offset_refusal(offset: i64, v1: i64, v2: i64, v3: i64) -> u32
+    ensures { λ r. ⌜ r ≡ first (offsetRules offset v1 v2 v3) ⌝ }
+{
+    if !in_range(offset, 1, OFFSETS) {
+        return NO_SUCH_NUMBER;
+    }
+    if !(offset_ok(v1) & offset_ok(v2) & offset_ok(v3)) {
+        return OUTSIDE_RANGE;
+    }
+    DONE
+}
+
 // Replaces one zero offset on its three axes.
 pub fn set_offset(p: Package, offset: i64, v1: i64, v2: i64, v3: i64) -> Answer
     ensures { λ r. ⌜ r ≡ answered p (setOffset offset v1 v2 v3) ⌝ }
 {
-    if !in_range(offset, 1, OFFSETS) {
-        return Answer {
-            after: p,
-            refusal: NO_SUCH_NUMBER,
-        };
-    }
-    if !(offset_ok(v1) & offset_ok(v2) & offset_ok(v3)) {
-        return Answer {
-            after: p,
-            refusal: OUTSIDE_RANGE,
-        };
+    let refusal = offset_refusal(offset, v1, v2, v3);
+    if refusal != DONE {
+        return Answer { after: p, refusal };
     }
     let i = index(offset);
     let mut after = p;
     after.offsets[i] = Offset {
         axes: [v1 as i32, v2 as i32, v3 as i32],
     };
-    Answer {
-        after,
-        refusal: DONE,
-    }
+    Answer { after, refusal }
 }
 
 // The value of two bytes, low byte first, two's complement. No call of a user.
@@ -188,17 +198,25 @@ pub fn load(p: Package, bytes: &[u8]) -> Answer
     }
 }
 
-// Writes the block of all empirical and mean values to the front of the buffer.
-pub fn save(p: Package, buffer: &mut [u8]) -> u32
-    ensures { λ r. ⌜ (r ≡ refusal p (save (now (buffer .entry)))) × (now (buffer .exit) ≡ saved p (now (buffer .entry))) ⌝ }
+// Writes the block of empirical and mean values to the front of the buffer. No call of a user.
+pub fn save_memory(memory: Memory, buffer: &mut [u8]) -> u32
+    ensures { λ r. ⌜ r ≡ first (saveRules (now (buffer .entry))) ⌝ }
+    ensures { λ _. ⌜ now (buffer .exit) ≡ cond (leb 80 (length (now (buffer .entry)))) (blockOf memory ++ drop 80 (now (buffer .entry))) (now (buffer .entry)) ⌝ }
 {
     if buffer.len() < 80 {
         return NO_ROOM;
     }
-    let memory = p.memory;
     let empirical = memory.empirical;
     let means = memory.means;
     write_words(empirical, &mut buffer[..]);
     write_words(means, &mut buffer[40..]);
     DONE
+}
+
+// Writes the block of all empirical and mean values to the front of the buffer.
+pub fn save(p: Package, buffer: &mut [u8]) -> u32
+    ensures { λ r. ⌜ (r ≡ refusal p (save (now (buffer .entry)))) × (now (buffer .exit) ≡ saved p (now (buffer .entry))) ⌝ }
+{
+    let memory = p.memory;
+    save_memory(memory, buffer)
 }

@@ -6,7 +6,7 @@ use Rattle.rules.specs.Tool.{namedOrNone}
 use Rattle.rules.specs.Calls.{Call, setEmpirical, answered}
 use Rattle.boundary.specs.Area.{unpacked}
 use Rattle.boundary.specs.Exports.{renewedBy}
-use Rattle.boundary.specs.RenewedLaws.{named}
+use Rattle.boundary.specs.RecordLaws.{named}
 use Rattle.boundary.specs.ExportLaws.{wrong-call, passes, done-call, refused-call}
 use borrow.Author.Needs.{needs}
 use Rattle.boundary.proofs.mezhtolik_set_empirical.Statement.{statement}

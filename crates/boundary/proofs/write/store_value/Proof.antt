@@ -1,30 +1,21 @@
-use mathlib.Core.Path.{_≡_, refl, sym, ap, _∙_}
+use mathlib.Core.Path.{_≡_, sym, ap, _∙_}
 use mathlib.Core.Bool.{true}
 use mathlib.Core.List.{[], _∷_}
-use Prim.Native.Nat.{ℕ, zero, suc, _+_, _*_, _<_}
+use Prim.Native.Nat.{ℕ, suc, _+_, _*_, _<_}
 use native.Mathlib.Omega.{arith}
-use lib.IntN.{ℤ, pos, negsuc}
+use lib.IntN.{ℤ, pos}
 use lib.ListN.{getD}
 use mir.Syntax.{w64}
-use mir.Val.{ofZ, toZ}
+use mir.Val.{toZ}
 use mir.Facts.{toZ-ofZ}
 use borrow.Author.Needs.{needs}
-use borrow.Author.Tests.{le-leb}
-use Rattle.signed.specs.RangeLaws.{true-T}
 use Rattle.signed.specs.CodeLaws.{from-one, in-store}
 use Rattle.rules.specs.Stores.{valueNumber}
-use Rattle.rules.specs.Tool.{namedOrNone}
 use Rattle.boundary.specs.Exports.{replaced, valueRenewed}
 use Rattle.boundary.specs.ReplacedLaws.{set-replaced}
-use Rattle.boundary.proofs.Laws.{Cast32, cast32}
+use Rattle.boundary.proofs.Laws.{names, Cast32, cast32}
 use Rattle.boundary.proofs.write.store_value.Statement.{statement}
 use Rattle.boundary.proofs.write.store_value.Tie as tie
-
--- a number whose bits are not 0 names a value
-names : (n : ℤ) → namedOrNone n ≡ true → (ofZ w64 n ≡ 0 → ⊥) → valueNumber n ≡ true
-names (pos zero) e h = absurd (h refl)
-names (pos (suc i)) e h = rw (le-leb 1 (suc i) (omega arith)) (rw (le-leb 0 (suc i) (omega arith)) at e)
-names (negsuc i) e h = absurd (true-T e)
 
 named : (c : tie.Then1) → valueNumber (c .before .args .n) ≡ true
 named c = names (c .before .args .n) (c .before .pre .1) (c .if1 .taken)
