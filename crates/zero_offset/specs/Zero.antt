@@ -18,8 +18,8 @@ use Rattle.package.specs.declared.ZeroMeasurement.{ZeroMeasurement}
 use Rattle.rules.specs.Refusals.{first}
 use Rattle.rules.specs.Stores.{pick, offsetRange, offsetOf, withOffset}
 use Rattle.rules.specs.Kinds.{byForm}
-use Rattle.rules.specs.Sizes.{positionsOk, calibratedOk, pairsOk}
-use Rattle.rules.specs.Zero.{zeroKindOf, probeIn, growth, eachCorrected, axisLeft, zeroNumbers, zeroArguments, zeroRecords, zeroDone}
+use Rattle.rules.specs.Sizes.{positionsOk, calibratedOk}
+use Rattle.rules.specs.Zero.{zeroKindOf, probeIn, zeroNumbers, zeroArguments, zeroRecords, zeroDone}
 use Rattle.rules.specs.Results.{ovr, ovi, filled, array, zeroResults, refusedResults}
 use Rattle.sizes.specs.Sizes.{sizesOf, widthsOk}
 use Rattle.sizes.specs.declared.Sizes.{Sizes}

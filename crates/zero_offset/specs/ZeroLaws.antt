@@ -26,7 +26,7 @@ use Rattle.package.specs.declared.Probing.{Probing}
 use Rattle.package.specs.declared.ZeroMeasurement.{ZeroMeasurement}
 use Rattle.rules.specs.Refusals.{first}
 use Rattle.rules.specs.RefusalLaws.{all-of, all-passed, first-later}
-use Rattle.rules.specs.Stores.{probeNumber, offsetNumber, offsetRange, offsetOf}
+use Rattle.rules.specs.Stores.{probeNumber, offsetNumber, offsetOf}
 use Rattle.rules.specs.Kinds.{zeroKindNumber, byForm}
 use Rattle.rules.specs.Sizes.{shift, measured, numbersOk}
 use Rattle.rules.specs.Zero.{zeroKindOf, probeIn, corrects, growth, eachCorrected, axisOf, axisLeft, zeroArguments, zeroRecords}
@@ -122,7 +122,7 @@ abbrev axesIn : Package → ZeroMeasurement → Axes
 axesIn p a = record { first = axisLeft p a (pos 1); second = axisLeft p a (pos 2); third = axisLeft p a (pos 3) }
 
 -- what is found of the records, by the rules
-abbrev pub shiftedBy : Package → ZeroMeasurement → Shifted
+abbrev shiftedBy : Package → ZeroMeasurement → Shifted
 shiftedBy p a = record { sizes = sizesOf (probeIn p a) (zeroKindOf a) (a .part); growths = growthsIn p a; axes = axesIn p a }
 
 module _ (p : Package) (a : ZeroMeasurement) where
@@ -141,7 +141,7 @@ module _ (p : Package) (a : ZeroMeasurement) where
       (ap₂ _&&_ (held (corrects a (pos 1)) (growth p a (pos 1)) t) (held (corrects a (pos 2)) (growth p a (pos 2)) t))
       (held (corrects a (pos 3)) (growth p a (pos 3)) t)
 
-  pub shifted-is : ZeroPassed a → shiftedIn (recordsOf p a) a ≡ shiftedBy p a
+  shifted-is : ZeroPassed a → shiftedIn (recordsOf p a) a ≡ shiftedBy p a
   unfolding shiftedWith growth
   shifted-is h =
       rw (found (probeIn p a) (a .part) (zeroKindOf a .form) (zeroKindOf a .inside) (part-passed a h), axes-are)
@@ -152,7 +152,7 @@ module _ (p : Package) (a : ZeroMeasurement) where
       ap (λ s. first (recordRules (testsOf (probeIn p a) (zeroKindOf a) a s))) (shifted-is h)
       ∙ rw (widths-are (probeIn p a) (zeroKindOf a) (a .part), tsa-is)
 
-  pub numbers-are : zeroNumbersOf (zeroKindOf a) a (sizesOf (probeIn p a) (zeroKindOf a) (a .part)) ≡ zeroResults p a
+  numbers-are : zeroNumbersOf (zeroKindOf a) a (sizesOf (probeIn p a) (zeroKindOf a) (a .part)) ≡ zeroResults p a
   unfolding zeroNumbersOf zeroResults
   numbers-are =
       let s = sizes-are (probeIn p a) (zeroKindOf a) (a .part) in
@@ -215,24 +215,26 @@ module _ (p : Package) (a : ZeroMeasurement) where
   unfolding zeroOutcome
   arguments-sooner n e = arguments-refused p (zeroArguments a) (zeroRecords p a) (zeroAccepted p a) n e
 
-  abbrev leftAt : ℕ → ZeroLeft
-  leftAt n = cond (eqb n 0) (zeroStored a (shiftedBy p a)) (zeroRefused (offsetOf p (a .offset)) n)
+  -- both, where n is the refusal of the records
+  abbrev outcomeAt : ℕ → Outcome
+  outcomeAt n = cond (eqb n 0) (zeroAccepted p a) (refusedOutcome p n)
 
-  left-is : ZeroPassed a → zeroLeft (recordsOf p a) a ≡ leftAt (first (zeroRecords p a))
+  abbrev leftAt : ℕ → Shifted → ZeroLeft
+  leftAt n s = cond (eqb n 0) (zeroStored a s) (zeroRefused (offsetOf p (a .offset)) n)
+
+  left-is : ZeroPassed a → zeroLeft (recordsOf p a) a ≡ leftAt (first (zeroRecords p a)) (shiftedBy p a)
   unfolding zeroLeft
-  left-is h =
-      ap₂ (λ (n : ℕ) (s : Shifted). cond (eqb n 0) (zeroStored a s) (zeroRefused (offsetOf p (a .offset)) n)) (refusal-is p a h) (shifted-is p a h)
-
-  abbrev at : ℕ → Outcome
-  at n = cond (eqb n 0) (zeroAccepted p a) (refusedOutcome p n)
+  left-is h = ap₂ leftAt (refusal-is p a h) (shifted-is p a h)
 
   -- where the arguments passed, the outcome is of the measurement's records alone
   pub outcome-left : first (zeroArguments a) ≡ 0 → zeroOutcome p a ≡ leftOutcome p a (zeroLeft (recordsOf p a) a)
   unfolding zeroOutcome zeroArguments
   outcome-left e =
-      ap at (first-later (zeroArguments a) (zeroRecords p a) tt e) ∙ same (first (zeroRecords p a)) ∙ ap (leftOutcome p a) (sym (left-is (arguments-passed a e)))
+      ap outcomeAt (first-later (zeroArguments a) (zeroRecords p a) tt e)
+      ∙ same (first (zeroRecords p a))
+      ∙ ap (leftOutcome p a) (sym (left-is (arguments-passed a e)))
     where
-      same : (n : ℕ) → at n ≡ leftOutcome p a (leftAt n)
+      same : (n : ℕ) → outcomeAt n ≡ leftOutcome p a (leftAt n (shiftedBy p a))
       same zero = rw (numbers-are p a)
       same (suc n) = let e = ne-eqb (suc n) 0 (λ q. omega arith) in rw e (rw e)
 
