@@ -2,9 +2,12 @@
 use mathlib.Core.Path.{_≡_}
 use mathlib.Core.Bool.{Bool, true, false, not, cond, _&&_, _||_}
 use mathlib.Core.List.{List, [], _∷_}
-use Prim.Native.Nat.{_≤_}
+use Prim.Native.Nat.{ℕ, _≤_}
+use lib.Dec.{eqb}
 use lib.IntN.{ℤ, pos, natAbs, _+ℤ_, _-ℤ_, _*ℤ_}
 use lib.Signed.{leZ}
+use mir.Syntax.{w32}
+use mir.Val.{SFits}
 use Rattle.signed.specs.Ranges.{within, size, eqZ}
 use Rattle.package.specs.declared.Package.{Package}
 use Rattle.package.specs.declared.Kind.{Kind}
@@ -12,20 +15,23 @@ use Rattle.package.specs.declared.Offset.{Offset}
 use Rattle.package.specs.declared.Probe.{Probe}
 use Rattle.package.specs.declared.Probing.{Probing}
 use Rattle.package.specs.declared.ZeroMeasurement.{ZeroMeasurement}
+use Rattle.rules.specs.Refusals.{first}
 use Rattle.rules.specs.Stores.{pick, offsetRange, offsetOf, withOffset}
 use Rattle.rules.specs.Kinds.{byForm}
-use Rattle.rules.specs.Sizes.{positionsOk, calibratedOk, pairsOk}
-use Rattle.rules.specs.Zero.{zeroKindOf, probeIn, growth, eachCorrected, axisLeft, zeroNumbers, zeroArguments, zeroRecords, zeroDone}
-use Rattle.rules.specs.Results.{ovr, ovi, filled, array, zeroResults}
+use Rattle.rules.specs.Sizes.{positionsOk, calibratedOk}
+use Rattle.rules.specs.Zero.{zeroKindOf, probeIn, zeroNumbers, zeroArguments, zeroRecords, zeroDone}
+use Rattle.rules.specs.Results.{ovr, ovi, filled, array, zeroResults, refusedResults}
 use Rattle.sizes.specs.Sizes.{sizesOf, widthsOk}
 use Rattle.sizes.specs.declared.Sizes.{Sizes}
-use Rattle.results.specs.Results.{entriesOf, outcomeOf}
+use Rattle.results.specs.Results.{recordRules, entriesOf, outcomeOf}
 use Rattle.results.specs.declared.Outcome.{Outcome}
 use Rattle.results.specs.declared.Tests.{Tests}
 use Rattle.zero_offset.specs.declared.Growth.{Growth}
 use Rattle.zero_offset.specs.declared.Growths.{Growths}
 use Rattle.zero_offset.specs.declared.Axes.{Axes}
 use Rattle.zero_offset.specs.declared.Shifted.{Shifted}
+use Rattle.zero_offset.specs.declared.ZeroRecords.{ZeroRecords}
+use Rattle.zero_offset.specs.declared.ZeroLeft.{ZeroLeft}
 
 -- what the rules of the arguments tell where they passed
 pub record ZeroPassed (a : ZeroMeasurement) : Type 0 where
@@ -82,8 +88,8 @@ shiftedWith x o a =
     let growths = growthsFrom (zeroKindOf a) (a .part) sizes in
     record { sizes = sizes; growths = growths; axes = leftFrom o growths }
 
-abbrev pub shiftedIn : Package → ZeroMeasurement → Shifted
-shiftedIn p a = shiftedWith (probeIn p a) (offsetOf p (a .offset)) a
+abbrev pub shiftedIn : ZeroRecords → ZeroMeasurement → Shifted
+shiftedIn r a = shiftedWith (r .probe) (r .offset) a
 
 -- the tests of the records, of what was found
 abbrev pub testsOf : Probe → Kind → ZeroMeasurement → Shifted → Tests
@@ -96,22 +102,39 @@ testsOf x k a s =
       range = axesOk (s .growths) (s .axes);
     }
 
-unfoldable pub zeroTests : Package → ZeroMeasurement → Tests
-zeroTests p a =
-    record {
-      calibrated = calibratedOk (probeIn p a) (zeroKindOf a) (a .part);
-      pairs = pairsOk (probeIn p a) (zeroKindOf a) (a .part);
-      tsa = eachCorrected a (λ n. leZ (size (growth p a n)) (pos 2 *ℤ a .tsa));
-      tdif = true;
-      range = eachCorrected a (λ n. offsetRange (axisLeft p a n));
-    }
+abbrev pub refusalIn : ZeroRecords → ZeroMeasurement → ℕ
+refusalIn r a = first (recordRules (testsOf (r .probe) (zeroKindOf a) a (shiftedIn r a)))
 
--- ---- the 42 numbers, the package after it, the outcome
+-- ---- the 42 numbers and the offset of a measurement that is done
 unfoldable pub zeroNumbersOf : Kind → ZeroMeasurement → Sizes → List ℤ
 zeroNumbersOf k a s = filled (array (entriesOf k (a .part) s (pos 0))) (ovr 28 (a .tsa) ∷ ovi 0 (a .offset) ∷ [])
 
-abbrev pub offsetLeft : Package → ℤ → Axes → Package
-offsetLeft p offset x = withOffset p offset (record { axes = x .first ∷ x .second ∷ x .third ∷ [] })
+-- what 32 bits hold
+abbrev pub Fit : Axes → Type 0
+Fit x = SFits w32 (x .first) × SFits w32 (x .second) × SFits w32 (x .third)
+
+abbrev pub offsetLeft : Axes → Offset
+offsetLeft x = record { axes = x .first ∷ x .second ∷ x .third ∷ [] }
+
+-- ---- what is left of the records
+abbrev pub zeroRefused : Offset → ℕ → ZeroLeft
+zeroRefused o n = record { offset = o; refusal = n; branch = 0; verdict = 0; numbers = refusedResults n }
+
+abbrev pub zeroStored : ZeroMeasurement → Shifted → ZeroLeft
+zeroStored a s = record { offset = offsetLeft (s .axes); refusal = 0; branch = 6; verdict = 0; numbers = zeroNumbersOf (zeroKindOf a) a (s .sizes) }
+
+unfoldable pub zeroLeft : ZeroRecords → ZeroMeasurement → ZeroLeft
+zeroLeft r a = cond (eqb (refusalIn r a) 0) (zeroStored a (shiftedIn r a)) (zeroRefused (r .offset) (refusalIn r a))
+
+-- ---- the outcome, of what is left
+abbrev pub recordsOf : Package → ZeroMeasurement → ZeroRecords
+recordsOf p a = record { probe = probeIn p a; offset = offsetOf p (a .offset) }
+
+abbrev pub packageLeft : Package → ℤ → ZeroLeft → Package
+packageLeft p offset l = cond (eqb (l .refusal) 0) (withOffset p offset (l .offset)) p
+
+abbrev pub leftOutcome : Package → ZeroMeasurement → ZeroLeft → Outcome
+leftOutcome p a l = record { after = packageLeft p (a .offset) l; refusal = l .refusal; branch = l .branch; verdict = l .verdict; numbers = l .numbers }
 
 abbrev pub zeroAccepted : Package → ZeroMeasurement → Outcome
 zeroAccepted p a = record { after = zeroDone p a; refusal = 0; branch = 6; verdict = 0; numbers = zeroResults p a }

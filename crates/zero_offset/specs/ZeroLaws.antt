@@ -1,14 +1,17 @@
 -- Growths, axes and numbers of a measurement with zero offset, as the code finds them, in the words of `rules`.
-use mathlib.Core.Path.{_≡_, refl, ap, ap₂, _∙_}
+use mathlib.Core.Path.{_≡_, refl, sym, ap, ap₂, _∙_}
 use mathlib.Core.Bool.{Bool, true, false, not, cond, _&&_, _||_}
 use mathlib.Core.List.{[], _∷_}
-use Prim.Native.Nat.{ℕ, suc, _≤_}
+use Prim.Native.Nat.{ℕ, zero, suc, _≤_}
 use native.Mathlib.Omega.{arith}
+use lib.Dec.{eqb}
 use lib.IntN.{ℤ, pos, natAbs, _+ℤ_, _-ℤ_, _*ℤ_}
+use lib.ListN.{getD}
 use lib.Signed.{leZ}
 use mir.Syntax.{w32, w64}
 use mir.Val.{SFits}
 use mir.Facts.{sfits-lit}
+use borrow.Author.Tests.{ne-eqb}
 use Rattle.signed.specs.Ranges.{minus, within, size, eqZ}
 use Rattle.signed.specs.RangeLaws.{within-fits}
 use Rattle.signed.specs.Differences.{ints, parts}
@@ -17,12 +20,13 @@ use Rattle.package.specs.declared.Package.{Package}
 use Rattle.package.specs.declared.Form.{Form}
 use Rattle.package.specs.declared.Form.the-variants.{Plane, Single, Double}
 use Rattle.package.specs.declared.Kind.{Kind}
+use Rattle.package.specs.declared.Offset.{Offset}
 use Rattle.package.specs.declared.Probe.{Probe}
 use Rattle.package.specs.declared.Probing.{Probing}
 use Rattle.package.specs.declared.ZeroMeasurement.{ZeroMeasurement}
 use Rattle.rules.specs.Refusals.{first}
-use Rattle.rules.specs.RefusalLaws.{all-of, all-passed}
-use Rattle.rules.specs.Stores.{probeNumber, offsetNumber, offsetRange, offsetOf}
+use Rattle.rules.specs.RefusalLaws.{all-of, all-passed, first-later}
+use Rattle.rules.specs.Stores.{probeNumber, offsetNumber, offsetOf}
 use Rattle.rules.specs.Kinds.{zeroKindNumber, byForm}
 use Rattle.rules.specs.Sizes.{shift, measured, numbersOk}
 use Rattle.rules.specs.Zero.{zeroKindOf, probeIn, corrects, growth, eachCorrected, axisOf, axisLeft, zeroArguments, zeroRecords}
@@ -32,12 +36,16 @@ use Rattle.sizes.specs.Sizes.{kind, sizesOf}
 use Rattle.sizes.specs.SizeLaws.{probe-number, widths-are, sizes-are, SizesSmall, sizes-small, by-axis, single-axis}
 use Rattle.sizes.specs.declared.Sizes.{Sizes}
 use Rattle.results.specs.Results.{recordRules, Small, entriesOf, refusedOutcome}
-use Rattle.results.specs.OutcomeLaws.{first-small, arguments-refused, records-refused, none-refused, number-size, entries-small}
+use Rattle.results.specs.OutcomeLaws.{first-small, arguments-refused, number-size, entries-small}
+use Rattle.results.specs.declared.Outcome.{Outcome}
+use Rattle.results.specs.declared.Tests.{Tests}
 use Rattle.zero_offset.specs.declared.Growth.{Growth}
 use Rattle.zero_offset.specs.declared.Growths.{Growths}
 use Rattle.zero_offset.specs.declared.Axes.{Axes}
 use Rattle.zero_offset.specs.declared.Shifted.{Shifted}
-use Rattle.zero_offset.specs.Zero.{ZeroPassed, growthIf, growthsFrom, SmallGrowths, growthsOk, leftFrom, shiftedWith, shiftedIn, testsOf, zeroTests, zeroNumbersOf, zeroAccepted, zeroOutcome}
+use Rattle.zero_offset.specs.declared.ZeroRecords.{ZeroRecords}
+use Rattle.zero_offset.specs.declared.ZeroLeft.{ZeroLeft}
+use Rattle.zero_offset.specs.Zero.{ZeroPassed, growthIf, growthsFrom, SmallGrowths, growthsOk, leftOk, axesOk, leftFrom, shiftedWith, shiftedIn, testsOf, refusalIn, zeroNumbersOf, Fit, zeroRefused, zeroStored, zeroLeft, recordsOf, leftOutcome, zeroAccepted, zeroOutcome}
 
 -- ---- what the rules of the arguments tell
 module _ (a : ZeroMeasurement) (h : ZeroPassed a) where
@@ -114,7 +122,7 @@ abbrev axesIn : Package → ZeroMeasurement → Axes
 axesIn p a = record { first = axisLeft p a (pos 1); second = axisLeft p a (pos 2); third = axisLeft p a (pos 3) }
 
 -- what is found of the records, by the rules
-abbrev pub shiftedBy : Package → ZeroMeasurement → Shifted
+abbrev shiftedBy : Package → ZeroMeasurement → Shifted
 shiftedBy p a = record { sizes = sizesOf (probeIn p a) (zeroKindOf a) (a .part); growths = growthsIn p a; axes = axesIn p a }
 
 module _ (p : Package) (a : ZeroMeasurement) where
@@ -133,17 +141,18 @@ module _ (p : Package) (a : ZeroMeasurement) where
       (ap₂ _&&_ (held (corrects a (pos 1)) (growth p a (pos 1)) t) (held (corrects a (pos 2)) (growth p a (pos 2)) t))
       (held (corrects a (pos 3)) (growth p a (pos 3)) t)
 
-  pub shifted-is : ZeroPassed a → shiftedIn p a ≡ shiftedBy p a
+  shifted-is : ZeroPassed a → shiftedIn (recordsOf p a) a ≡ shiftedBy p a
   unfolding shiftedWith growth
   shifted-is h =
       rw (found (probeIn p a) (a .part) (zeroKindOf a .form) (zeroKindOf a .inside) (part-passed a h), axes-are)
 
-  pub tests-are : ZeroPassed a → testsOf (probeIn p a) (zeroKindOf a) a (shiftedIn p a) ≡ zeroTests p a
-  unfolding zeroTests
-  tests-are h =
-      ap (testsOf (probeIn p a) (zeroKindOf a) a) (shifted-is h) ∙ rw (widths-are (probeIn p a) (zeroKindOf a) (a .part), tsa-is)
+  refusal-is : ZeroPassed a → refusalIn (recordsOf p a) a ≡ first (zeroRecords p a)
+  unfolding zeroRecords
+  refusal-is h =
+      ap (λ s. first (recordRules (testsOf (probeIn p a) (zeroKindOf a) a s))) (shifted-is h)
+      ∙ rw (widths-are (probeIn p a) (zeroKindOf a) (a .part), tsa-is)
 
-  pub numbers-are : zeroNumbersOf (zeroKindOf a) a (sizesOf (probeIn p a) (zeroKindOf a) (a .part)) ≡ zeroResults p a
+  numbers-are : zeroNumbersOf (zeroKindOf a) a (sizesOf (probeIn p a) (zeroKindOf a) (a .part)) ≡ zeroResults p a
   unfolding zeroNumbersOf zeroResults
   numbers-are =
       let s = sizes-are (probeIn p a) (zeroKindOf a) (a .part) in
@@ -156,10 +165,6 @@ module _ (p : Package) (a : ZeroMeasurement) where
         s .second .centre-is,
         s .second .shift-is,
       )
-
-  pub records-are : first (recordRules (zeroTests p a)) ≡ first (zeroRecords p a)
-  unfolding zeroTests zeroRecords
-  records-are = refl
 
 -- ---- how large they are
 -- 2·(measured - setpoint)
@@ -194,7 +199,7 @@ module _ (a : ZeroMeasurement) (h : ZeroPassed a) where
   pub found-small : (x : Probe) → SizesSmall (a .part) (sizesOf x (zeroKindOf a) (a .part))
   found-small x = sizes-small x (zeroKindOf a) (a .part) (part-passed a h) (h .positions)
 
-  pub zero-small : (s : Sizes) → SizesSmall (a .part) s → Small (entriesOf (zeroKindOf a) (a .part) s (pos 0))
+  zero-small : (s : Sizes) → SizesSmall (a .part) s → Small (entriesOf (zeroKindOf a) (a .part) s (pos 0))
   zero-small s t =
       entries-small (zeroKindOf a) (a .part) s (pos 0) t (omega arith) (number-size 100 104 (a .part .kind) (kind-passed a h)) (number-size 1 3 (a .part .probe) (probe-passed a h))
 
@@ -210,34 +215,74 @@ module _ (p : Package) (a : ZeroMeasurement) where
   unfolding zeroOutcome
   arguments-sooner n e = arguments-refused p (zeroArguments a) (zeroRecords p a) (zeroAccepted p a) n e
 
-  pub records-later : first (zeroArguments a) ≡ 0 → (n : ℕ) → first (zeroRecords p a) ≡ suc n → zeroOutcome p a ≡ refusedOutcome p (suc n)
+  -- both, where n is the refusal of the records
+  abbrev outcomeAt : ℕ → Outcome
+  outcomeAt n = cond (eqb n 0) (zeroAccepted p a) (refusedOutcome p n)
+
+  abbrev leftAt : ℕ → Shifted → ZeroLeft
+  leftAt n s = cond (eqb n 0) (zeroStored a s) (zeroRefused (offsetOf p (a .offset)) n)
+
+  left-is : ZeroPassed a → zeroLeft (recordsOf p a) a ≡ leftAt (first (zeroRecords p a)) (shiftedBy p a)
+  unfolding zeroLeft
+  left-is h = ap₂ leftAt (refusal-is p a h) (shifted-is p a h)
+
+  -- where the arguments passed, the outcome is of the measurement's records alone
+  pub outcome-left : first (zeroArguments a) ≡ 0 → zeroOutcome p a ≡ leftOutcome p a (zeroLeft (recordsOf p a) a)
   unfolding zeroOutcome zeroArguments
-  records-later e n q = records-refused p (zeroArguments a) (zeroRecords p a) (zeroAccepted p a) tt e n q
-
-  pub all-done : first (zeroArguments a) ≡ 0 → first (zeroRecords p a) ≡ 0 → zeroOutcome p a ≡ zeroAccepted p a
-  unfolding zeroOutcome zeroArguments
-  all-done e q = none-refused p (zeroArguments a) (zeroRecords p a) (zeroAccepted p a) tt e q
-
-  pub arguments-small : first (zeroArguments a) ≤ 9
-  unfolding zeroArguments
-  arguments-small = first-small (zeroArguments a) tt
-
-  pub records-small : first (zeroRecords p a) ≤ 9
-  unfolding zeroRecords
-  records-small = first-small (zeroRecords p a) tt
-
-  -- an axis that is left is of 32 bits, as the one that is stored
-  axis-fits : (n : ℤ) → SFits w32 (axisOf p a n) → (not (corrects a n) || offsetRange (axisLeft p a n)) ≡ true → SFits w32 (axisLeft p a n)
-  axis-fits n f = go (corrects a n)
+  outcome-left e =
+      ap outcomeAt (first-later (zeroArguments a) (zeroRecords p a) tt e)
+      ∙ same (first (zeroRecords p a))
+      ∙ ap (leftOutcome p a) (sym (left-is (arguments-passed a e)))
     where
-      go : (b : Bool) → let z = cond b (axisOf p a n +ℤ growth p a n) (axisOf p a n) in (not b || offsetRange z) ≡ true → SFits w32 z
-      go true e = within-fits (minus 20000000) (pos 20000000) (axisOf p a n +ℤ growth p a n) (sfits-lit tt) (sfits-lit tt) e
-      go false e = f
+      same : (n : ℕ) → outcomeAt n ≡ leftOutcome p a (leftAt n (shiftedBy p a))
+      same zero = rw (numbers-are p a)
+      same (suc n) = let e = ne-eqb (suc n) 0 (λ q. omega arith) in rw e (rw e)
 
-  pub axes-fit : ((n : ℕ) → SFits w32 (axisOf p a (pos (suc n)))) → first (zeroRecords p a) ≡ 0
-      → SFits w32 (axisLeft p a (pos 1)) × SFits w32 (axisLeft p a (pos 2)) × SFits w32 (axisLeft p a (pos 3))
-  unfolding zeroRecords
-  axes-fit f e =
-      let t = all-passed (zeroRecords p a) tt e .1 .1 .1 .0 in
-      let u = all-of _ (_ ∷ _ ∷ []) t in
-      (axis-fits (pos 1) (f 0) (u .0), axis-fits (pos 2) (f 1) (u .1 .0), axis-fits (pos 3) (f 2) (u .1 .1 .0))
+pub arguments-small : (a : ZeroMeasurement) → first (zeroArguments a) ≤ 9
+unfolding zeroArguments
+arguments-small a = first-small (zeroArguments a) tt
+
+pub records-small : (t : Tests) → first (recordRules t) ≤ 9
+records-small t = first-small (recordRules t) tt
+
+-- ---- an axis that is left is of 32 bits, as the one that is stored
+axis-fits : (b : Bool) (v z : ℤ) → let g = growthIf b z in SFits w32 v → leftOk g (v +ℤ g .by) ≡ true → SFits w32 (v +ℤ g .by)
+axis-fits true v z f e = within-fits (minus 20000000) (pos 20000000) (v +ℤ z) (sfits-lit tt) (sfits-lit tt) e
+axis-fits false v z f e = rw (add-zero v) f
+
+module _ (o : Offset) (stored : (n : ℕ) → SFits w32 (getD (o .axes) n (pos 0))) where
+  fit : (b1 b2 b3 : Bool) (z1 z2 z3 : ℤ) →
+      let g : Growths = record { first = growthIf b1 z1; second = growthIf b2 z2; third = growthIf b3 z3 } in
+      axesOk g (leftFrom o g) ≡ true → Fit (leftFrom o g)
+  fit b1 b2 b3 z1 z2 z3 e =
+      let u = all-of _ (_ ∷ _ ∷ []) e in
+      (axis-fits b1 _ z1 (stored 0) (u .0), axis-fits b2 _ z2 (stored 1) (u .1 .0), axis-fits b3 _ z3 (stored 2) (u .1 .1 .0))
+
+  axes-fit : (k : Kind) (a : Probing) (s : Sizes) → let g = growthsFrom k a s in axesOk g (leftFrom o g) ≡ true → Fit (leftFrom o g)
+  unfolding growthsFrom
+  axes-fit k a s = go (k .form)
+    where
+      is : ℤ → Bool
+      is n = eqZ (a .axis) n
+
+      plane : ℤ
+      plane = pos 2 *ℤ (s .measured -ℤ a .setpoint)
+
+      go : (f : Form) → let g = growthsFrom (kind f (k .inside)) a s in axesOk g (leftFrom o g) ≡ true → Fit (leftFrom o g)
+      go Plane = fit (is (pos 1)) (is (pos 2)) (is (pos 3)) plane plane plane
+      go Single = fit (is (pos 1)) (is (pos 2)) false (s .first .shift) (s .second .shift) (pos 0)
+      go Double = fit true true false (s .first .shift) (s .second .shift) (pos 0)
+
+-- ---- what is found where the arguments passed
+module _ (r : ZeroRecords) (a : ZeroMeasurement) where
+  pub growths-found : ZeroPassed a → SmallGrowths (shiftedIn r a .growths)
+  unfolding shiftedWith
+  growths-found h = growths-small (zeroKindOf a) (a .part) _ (found-small a h (r .probe))
+
+  pub sizes-found : ZeroPassed a → Small (entriesOf (zeroKindOf a) (a .part) (shiftedIn r a .sizes) (pos 0))
+  unfolding shiftedWith
+  sizes-found h = zero-small a h _ (found-small a h (r .probe))
+
+  pub axes-found : ((n : ℕ) → SFits w32 (getD (r .offset .axes) n (pos 0))) → refusalIn r a ≡ 0 → Fit (shiftedIn r a .axes)
+  unfolding shiftedWith
+  axes-found f e = axes-fit (r .offset) f (zeroKindOf a) (a .part) _ (all-passed (recordRules (testsOf (r .probe) (zeroKindOf a) a (shiftedIn r a))) tt e .1 .1 .1 .1 .0)

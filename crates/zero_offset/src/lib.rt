@@ -20,6 +20,7 @@ use results::Tests;
 use results::narrow;
 use results::records_refusal;
 use results::refused;
+use results::refused_numbers;
 use results::size_numbers;
 use signed::in_range;
 use signed::index;
@@ -36,15 +37,13 @@ ghost use mathlib.Core.Path.{_≡_};
 ghost use mathlib.Core.Bool.{true};
 ghost use Prim.Native.Nat.{_≤_};
 ghost use lib.IntN.{pos, natAbs, _+ℤ_};
-ghost use mir.Syntax.{w32};
-ghost use mir.Val.{SFits};
 ghost use Rattle.rules.specs.Stores.{offsetNumber};
 ghost use Rattle.rules.specs.Kinds.{zeroKind};
 ghost use Rattle.rules.specs.Refusals.{first};
 ghost use Rattle.rules.specs.Sizes.{numbersOk};
 ghost use Rattle.rules.specs.Zero.{zeroKindOf, zeroNumbers, zeroArguments};
 ghost use Rattle.results.specs.Results.{Small, entriesOf};
-ghost use Rattle.zero_offset.specs.Zero.{ZeroPassed, growthIf, growthsFrom, SmallGrowths, growthOk, growthsOk, leftOk, axesOk, leftFrom, shiftedWith, testsOf, zeroNumbersOf, offsetLeft, zeroOutcome};
+ghost use Rattle.zero_offset.specs.Zero.{ZeroPassed, growthIf, growthsFrom, SmallGrowths, growthOk, growthsOk, leftOk, axesOk, leftFrom, shiftedWith, testsOf, zeroNumbersOf, Fit, offsetLeft, zeroLeft, packageLeft, zeroOutcome};
 
 // Whether an axis of the offset is corrected, and the h that it grows by, 0 where it is not.
 pub struct Growth {
@@ -63,6 +62,21 @@ pub struct Axes {
     pub first: i64,
     pub second: i64,
     pub third: i64,
+}
+
+// The records that a measurement reads.
+pub struct ZeroRecords {
+    pub probe: Probe,
+    pub offset: Offset,
+}
+
+// What a measurement leaves: its offset, as it was where it is refused, its answer and the 42 numbers.
+pub struct ZeroLeft {
+    pub offset: Offset,
+    pub refusal: u32,
+    pub branch: u32,
+    pub verdict: u32,
+    pub numbers: [i32; 42],
 }
 
 // What a measurement finds of the records: sizes, growths of the offset's axes, and the axes that it would leave.
@@ -91,7 +105,7 @@ fn zero_numbers_ok(k: Kind, a: ZeroMeasurement) -> bool
 }
 
 // The first refusal that the arguments alone give.
-fn arguments_refusal(a: ZeroMeasurement) -> u32
+pub fn zero_refusal(a: ZeroMeasurement) -> u32
     ensures { λ r. ⌜ r ≡ first (zeroArguments a) ⌝ }
 {
     let part = a.part;
@@ -250,17 +264,59 @@ fn zero_numbers(k: Kind, a: ZeroMeasurement, s: Sizes) -> [i32; 42]
     n
 }
 
-// The package after a measurement that is done: the axes of its offset replaced.
-fn zero_done(p: Package, offset: i64, x: Axes) -> Package
-    requires { ⌜ offsetNumber offset ≡ true ⌝ }
-    requires { ⌜ SFits w32 (x .first) × SFits w32 (x .second) × SFits w32 (x .third) ⌝ }
-    ensures { λ r. ⌜ r ≡ offsetLeft p offset x ⌝ }
+// The axes as they are stored.
+fn offset_left(x: Axes) -> Offset
+    requires { ⌜ Fit x ⌝ }
+    ensures { λ r. ⌜ r ≡ offsetLeft x ⌝ }
 {
-    let i = index(offset);
-    let mut after = p;
-    after.offsets[i] = Offset {
+    Offset {
         axes: [x.first as i32, x.second as i32, x.third as i32],
-    };
+    }
+}
+
+// What a measurement whose arguments passed leaves of its records. No call of a user.
+pub fn zero_left(r: ZeroRecords, a: ZeroMeasurement) -> ZeroLeft
+    requires { ⌜ ZeroPassed a ⌝ }
+    ensures { λ x. ⌜ x ≡ zeroLeft r a ⌝ }
+{
+    let part = a.part;
+    let k = zero_kind_of(part.kind);
+    let probe = r.probe;
+    let offset = r.offset;
+    let s = shifted_of(probe, offset, k, a);
+    let refusal = records_refusal(tests_of(probe, k, a, s));
+    if refusal != DONE {
+        return ZeroLeft {
+            offset,
+            refusal,
+            branch: 0,
+            verdict: 0,
+            numbers: refused_numbers(refusal),
+        };
+    }
+    let sizes = s.sizes;
+    let axes = s.axes;
+    ZeroLeft {
+        offset: offset_left(axes),
+        refusal: DONE,
+        branch: ZERO_BRANCH,
+        verdict: IN_TOLERANCE,
+        numbers: zero_numbers(k, a, sizes),
+    }
+}
+
+// The package after a measurement: its offset replaced where it is done.
+fn zero_done(p: Package, offset: i64, l: ZeroLeft) -> Package
+    requires { ⌜ offsetNumber offset ≡ true ⌝ }
+    ensures { λ r. ⌜ r ≡ packageLeft p offset l ⌝ }
+{
+    if l.refusal != DONE {
+        return p;
+    }
+    let i = index(offset);
+    let x = l.offset;
+    let mut after = p;
+    after.offsets[i] = x;
     after
 }
 
@@ -268,28 +324,24 @@ fn zero_done(p: Package, offset: i64, x: Axes) -> Package
 pub fn zero_outcome(p: Package, a: ZeroMeasurement) -> Outcome
     ensures { λ r. ⌜ r ≡ zeroOutcome p a ⌝ }
 {
-    let stated = arguments_refusal(a);
+    let stated = zero_refusal(a);
     if stated != DONE {
         return refused(p, stated);
     }
     let part = a.part;
-    let k = zero_kind_of(part.kind);
     let i = index(part.probe);
-    let x = p.probes[i];
     let j = index(a.offset);
-    let o = p.offsets[j];
-    let s = shifted_of(x, o, k, a);
-    let refusal = records_refusal(tests_of(x, k, a, s));
-    if refusal != DONE {
-        return refused(p, refusal);
-    }
-    let sizes = s.sizes;
-    let axes = s.axes;
+    let records = ZeroRecords {
+        probe: p.probes[i],
+        offset: p.offsets[j],
+    };
+    let l = zero_left(records, a);
+    let numbers = l.numbers;
     Outcome {
-        after: zero_done(p, a.offset, axes),
-        refusal: DONE,
-        branch: ZERO_BRANCH,
-        verdict: IN_TOLERANCE,
-        numbers: zero_numbers(k, a, sizes),
+        after: zero_done(p, a.offset, l),
+        refusal: l.refusal,
+        branch: l.branch,
+        verdict: l.verdict,
+        numbers,
     }
 }
