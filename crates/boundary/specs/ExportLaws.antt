@@ -1,8 +1,10 @@
 -- An exported call whose area has not 137 numbers, and one whose area holds records: what it answers and leaves.
-use mathlib.Core.Path.{_≡_}
-use mathlib.Core.Bool.{true, false}
+use mathlib.Core.Path.{_≡_, refl, ap}
+use mathlib.Core.Bool.{true, false, cond}
 use mathlib.Core.List.{List}
-use Prim.Native.Nat.{ℕ}
+use Prim.Native.Nat.{ℕ, zero, suc}
+use native.Mathlib.Omega.{arith}
+use lib.Dec.{eqb}
 use lib.IntN.{ℤ}
 use lib.ListN.{length}
 use borrow.Author.Tests.{ne-eqb, eq-eqb}
@@ -12,7 +14,7 @@ use Rattle.package.specs.declared.Measured.{Measured}
 use Rattle.rules.specs.Block.{saved}
 use Rattle.rules.specs.Status.{statusRead}
 use Rattle.rules.specs.RefusalLaws.{Numbered, Passed, all-passed}
-use Rattle.rules.specs.Calls.{Call, save, rules, refusal, step, answered}
+use Rattle.rules.specs.Calls.{Call, save, rules, refusal, done, step, answered}
 use Rattle.jobs.specs.Jobs.{jobRan, jobOutput}
 use Rattle.jobs.specs.declared.Ran.{Ran}
 use Rattle.boundary.specs.declared.Decision.{Decision}
@@ -94,15 +96,16 @@ module _ (area : List ℤ) (right : length area ≡ 137) where
       → r ≡ undecided 101 → reply r area results ≡ replied area numbers count c m after results
   wrong-arguments numbers count c m after results n e = rw (e, whole, ne-eqb (length numbers) count n)
 
-  -- a measurement that is done, and one that is refused
+  -- a measurement that is made, done or refused
+  made-area : (c : Call) (n : ℕ) → stored n (renewedBy area (cond (eqb n 0) (done (unpacked area) c) (unpacked area)) c) area ≡ stored n (renewedBy area (done (unpacked area) c) c) area
+  made-area c zero = refl
+  made-area c (suc n) = rw (ne-eqb (suc n) 0 (λ q. omega arith))
+
   module _ (numbers : List ℤ) (count : ℕ) (c : Call) (m : Measured) (after results : List ℤ) {found : Measured} {r : Decision} {array : List ℤ}
       (n : length numbers ≡ count) (e : (found ≡ m) × (array ≡ after)) (d : r ≡ decided found) where
-    pub done-reply : m .refusal ≡ refusal (unpacked area) c → m .after ≡ step (unpacked area) c → found .refusal ≡ 0
-        → {new : List ℤ} → new ≡ renewedBy area (found .after) c → reply r new array ≡ replied area numbers count c m after results
+    pub made-reply : m .refusal ≡ refusal (unpacked area) c → m .after ≡ step (unpacked area) c
+        → {new : List ℤ} → new ≡ stored (found .refusal) (renewedBy area (found .after) c) area → reply r new array ≡ replied area numbers count c m after results
     unfolding step renewed
-    done-reply p q z h =
-        let k : refusal (unpacked area) c ≡ 0 = rw (e .0, p) at z in
-        rw (d, h, e .0, e .1, whole, eq-eqb (length numbers) count n, q, p, k)
-
-    pub refused-reply : (found .refusal ≡ 0 → ⊥) → reply r area array ≡ replied area numbers count c m after results
-    refused-reply z = rw (d, e .0, e .1, whole, eq-eqb (length numbers) count n, ne-eqb (m .refusal) 0 (rw (e .0) at z))
+    made-reply p q h =
+        let new : stored (m .refusal) (renewedBy area (m .after) c) area ≡ stored (m .refusal) (renewed area c) area = rw (q, p) (made-area c (refusal (unpacked area) c)) in
+        rw (d, h, e .0, e .1, whole, eq-eqb (length numbers) count n) (ap (λ (zs : List ℤ). reply (decided m) zs after) new)

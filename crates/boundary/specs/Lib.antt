@@ -6,3 +6,5 @@ pub mod ExportLaws
 pub mod ReplacedLaws
 pub mod RecordLaws
 pub mod RenewedLaws
+pub mod Measurements
+pub mod MeasurementLaws

@@ -1,7 +1,12 @@
 // Every call of the package for C: the records in an area that the caller lends, 137 numbers, and numbers and slices beside it.
+mod measure;
 mod read;
 mod write;
 
+use crate::measure::not_made;
+use crate::measure::put_tool;
+use crate::measure::refuse;
+use crate::measure::tool_records;
 use crate::read::read_probe;
 use crate::read::unpack;
 use crate::write::pack;
@@ -13,8 +18,8 @@ use crate::write::write_probe;
 use job_text::arguments::tool_of;
 use job_text::arguments::zero_of;
 use jobs::run_job;
-use measuring::measure_tool;
 use measuring::measure_zero;
+use measuring::write_results;
 use package::Calibration;
 use package::DONE;
 use package::Measured;
@@ -29,13 +34,16 @@ use records::save;
 use records::set_empirical;
 use records::set_offset;
 use records::set_wear;
+use results::has_room;
 use signed::in_range;
 use signed::index;
+use tool_offset::tool_left;
+use tool_offset::tool_refusal;
 ghost use mathlib.Core.Path.{_≡_};
 ghost use lib.ListN.{length};
 ghost use Rattle.rules.specs.Calls.{setEmpirical, setWear, setOffset, calibrate, load};
 ghost use Rattle.boundary.specs.Area.{packed};
-ghost use Rattle.boundary.specs.Exports.{stored, left, called, freshCalled, calibration, statusCalled, savedAs, saveCalled, reply, decided, undecided, toolCalled, zeroCalled, jobLeft, jobCalled};
+ghost use Rattle.boundary.specs.Exports.{stored, left, called, freshCalled, calibration, statusCalled, savedAs, saveCalled, reply, decided, toolCalled, zeroCalled, jobLeft, jobCalled};
 
 // Refusals of this crate alone: an area that has not 137 numbers; arguments that are not as many as a measurement's.
 pub const WRONG_AREA: u32 = 100;
@@ -99,17 +107,6 @@ fn decision_of(m: Measured) -> Decision
         refusal: m.refusal,
         branch: m.branch,
         verdict: m.verdict,
-    }
-}
-
-// A measurement that is not made.
-fn not_made(refusal: u32) -> Decision
-    ensures { λ r. ⌜ r ≡ undecided refusal ⌝ }
-{
-    Decision {
-        refusal,
-        branch: 0,
-        verdict: 0,
     }
 }
 
@@ -252,17 +249,23 @@ pub extern "C" fn mezhtolik_measure_tool(
     if numbers.len() != TOOL_NUMBERS {
         return not_made(WRONG_ARGUMENTS);
     }
-    let a = tool_of(numbers);
-    let m = measure_tool(unpack(&area[..]), a, results, place);
-    if m.refusal != DONE {
-        return decision_of(m);
+    if !has_room(results.len(), place) {
+        return not_made(NO_ROOM);
     }
-    let after = m.after;
-    let memory = after.memory;
-    let means = memory.means;
-    store_value(means, a.mv, area, MEANS);
-    store_tool(after, a.tool, area);
-    decision_of(m)
+    let a = tool_of(numbers);
+    let stated = tool_refusal(a);
+    if stated != DONE {
+        return refuse(stated, results, place);
+    }
+    let l = tool_left(tool_records(&area[..], a), a);
+    let found = l.numbers;
+    write_results(found, results, place);
+    put_tool(l, a, area);
+    Decision {
+        refusal: l.refusal,
+        branch: l.branch,
+        verdict: l.verdict,
+    }
 }
 
 // Measures with zero offset and writes the 42 numbers that begin at place.

@@ -1,39 +1,56 @@
 use mathlib.Core.Path.{_≡_, refl, sym, ap, _∙_}
+use mathlib.Core.Bool.{true}
 use mathlib.Core.List.{List}
-use lib.IntN.{ℤ}
+use Prim.Native.Nat.{suc, _+_, _-_}
 use native.Mathlib.Omega.{arith}
-use mir.Syntax.{w64}
-use mir.Val.{ofZ, toZ}
+use lib.Dec.{leb}
+use lib.IntN.{ℤ}
+use lib.ListN.{length}
 use borrow.Author.Needs.{needs}
-use Rattle.signed.specs.CodeLaws.{read}
+use borrow.Author.Tests.{leb-true, ne-eqb}
+use Rattle.signed.specs.CodeLaws.{failed, passed}
+use Rattle.package.specs.declared.Package.{Package}
+use Rattle.package.specs.declared.ToolMeasurement.{ToolMeasurement}
 use Rattle.package.specs.declared.Measured.{Measured}
-use Rattle.rules.specs.Tool.{toolArguments, toolRecords}
+use Rattle.rules.specs.Refusals.{first}
+use Rattle.rules.specs.Results.{written}
+use Rattle.rules.specs.Tool.{toolArguments}
 use Rattle.rules.specs.Measuring.{toolMeasured, toolArray}
-use Rattle.rules.specs.MeasuringLaws.{ToolNumbers, tool-numbers}
-use Rattle.rules.specs.RefusalLaws.{all-passed}
-use Rattle.rules.specs.Calls.{Call, measureTool, rules, refusal, step}
+use Rattle.rules.specs.Calls.{Call, measureTool, refusal, step}
+use Rattle.results.specs.Results.{refusedOutcome, answerOf}
+use Rattle.results.specs.declared.Outcome.{Outcome}
+use Rattle.tool_offset.specs.Tool.{ToolPassed, recordsOf, toolLeft, leftOutcome, toolOutcome}
+use Rattle.tool_offset.specs.ToolLaws.{arguments-passed, arguments-sooner, arguments-small, outcome-left}
+use Rattle.measuring.specs.CallLaws.{tool-no-room, tool-with-room}
 use Rattle.job_text.specs.Letters.{toolOf}
 use Rattle.boundary.specs.Area.{unpacked}
-use Rattle.boundary.specs.Exports.{valueRenewed, toolRenewed, renewedBy, toolCalled}
-use Rattle.boundary.specs.ExportLaws.{wrong-reply, wrong-arguments, done-reply, refused-reply}
+use Rattle.boundary.specs.Exports.{toolCalled}
+use Rattle.boundary.specs.ExportLaws.{wrong-reply, wrong-arguments, made-reply}
+use Rattle.boundary.specs.MeasurementLaws.{tool-stored}
 use Rattle.boundary.proofs.mezhtolik_measure_tool.Statement.{statement}
 use Rattle.boundary.proofs.mezhtolik_measure_tool.Tie as tie
 
+abbrev records : tie.Start → Package
+records s = unpacked (s .args .area .now)
+
+abbrev given : tie.Start → ToolMeasurement
+given s = toolOf (s .args .numbers .now)
+
 abbrev call : tie.Start → Call
-call s = measureTool (toolOf (s .args .numbers .now)) (s .args .results .now) (s .args .place)
+call s = measureTool (given s) (s .args .results .now) (s .args .place)
 
 -- what the core answers, and the array after it
 abbrev measured : tie.Start → Measured
-measured s = toolMeasured (unpacked (s .args .area .now)) (toolOf (s .args .numbers .now)) (s .args .results .now) (s .args .place)
+measured s = toolMeasured (records s) (given s) (s .args .results .now) (s .args .place)
 
 abbrev array : tie.Start → List ℤ
-array s = toolArray (unpacked (s .args .area .now)) (toolOf (s .args .numbers .now)) (s .args .results .now) (s .args .place)
+array s = toolArray (records s) (given s) (s .args .results .now) (s .args .place)
 
-measured-refusal : (s : tie.Start) → measured s .refusal ≡ refusal (unpacked (s .args .area .now)) (call s)
+measured-refusal : (s : tie.Start) → measured s .refusal ≡ refusal (records s) (call s)
 unfolding toolMeasured
 measured-refusal s = refl
 
-measured-after : (s : tie.Start) → measured s .after ≡ step (unpacked (s .args .area .now)) (call s)
+measured-after : (s : tie.Start) → measured s .after ≡ step (records s) (call s)
 unfolding toolMeasured
 measured-after s = refl
 
@@ -56,114 +73,133 @@ returns-2 c =
     let s = e .before in
     wrong-arguments (s .args .area .now) (e .if1 .left) (s .args .numbers .now) 21 (call s) (measured s) (array s) (s .args .results .now) (c .before .if2 .taken) (c .not-made2 .ensures)
 
-tool-of-requires : tie.Need-tool-of-requires
-tool-of-requires c κs = search needs
+-- ---- the room
+has-room-requires : tie.Need-has-room-requires
+has-room-requires c κs = search needs
 
-unpack-requires : tie.Need-unpack-requires
-unpack-requires c κs = search needs
-
-measure-tool-requires : tie.Need-measure-tool-requires
-measure-tool-requires c κs = search needs
-
-decision-of-requires : tie.Need-decision-of-requires
-decision-of-requires c κs = search needs
-
-same-length : tie.Need-same-length
-same-length c = search needs
-
-same-length-2 : tie.Need-same-length-2
-same-length-2 c = search needs
-
-abbrev arguments : tie.After-measure-tool → tie.After-tool-of
-arguments c = c .before .before .before .before
-
-abbrev start : tie.After-measure-tool → tie.Start
-start c = arguments c .before .before .before
-
-found : (c : tie.After-measure-tool) → (c .measure-tool .result ≡ measured (start c)) × (c .measure-tool .last .1 .1 .0 ≡ array (start c))
-found c = rw (c .before .before .unpack .ensures, arguments c .tool-of .ensures) at (c .measure-tool .ensures)
-
-abbrev made : tie.Else3 → tie.After-measure-tool
-made c = c .before .before .before
-
-passed : (c : tie.Else3) → let s = start (made c) in refusal (unpacked (s .args .area .now)) (call s) ≡ 0
-passed c = sym (measured-refusal (start (made c))) ∙ ap (λ (m : Measured). m .refusal) (sym (found (made c) .0)) ∙ c .if3 .left
+not-made-requires-3 : tie.Need-not-made-requires-3
+not-made-requires-3 c κs = search needs
 
 returns-3 : tie.Need-returns-3
 unfolding toolCalled
 returns-3 c =
-    let w = c .before .before .before .before in
-    let e = arguments w .before in
-    let s = start w in
-    refused-reply (s .args .area .now) (e .before .if1 .left) (s .args .numbers .now) 21 (call s) (measured s) (array s) (s .args .results .now) (e .if2 .left)
-    (found w) (c .decision-of .ensures) (c .before .if3 .taken)
+    let t = c .before in
+    let e = t .before .before in
+    let s = e .before .before in
+    made-reply (s .args .area .now) (e .before .if1 .left) (s .args .numbers .now) 21 (call s) (measured s) (array s) (s .args .results .now) (e .if2 .left)
+    (tool-no-room (records s) (given s) (s .args .results .now) (s .args .place) (failed (t .before .has-room .ensures) (t .if3 .taken)))
+    (c .not-made3 .ensures) (measured-refusal s) (measured-after s) refl
 
-numbers : (c : tie.Else3) → ToolNumbers (arguments (made c) .tool-of .result)
-unfolding refusal toolArguments toolRecords
-numbers c =
-    let s = start (made c) in
-    let a = toolOf (s .args .numbers .now) in
-    rw (arguments (made c) .tool-of .ensures) (tool-numbers a (all-passed (rules (unpacked (s .args .area .now)) (call s)) tt (passed c) .1 .0))
+-- where there is room: both lengths are right
+abbrev right : tie.Else3 → tie.Else2
+right c = c .before .before
 
-abbrev done : tie.After-struct-told → tie.Else3
-done c = c .before .before .before .before .before
+abbrev start : tie.Else3 → tie.Start
+start c = right c .before .before
 
-abbrev mean-done : tie.After-struct-told2 → tie.After-store-value
-mean-done c = c .before .before .before
+room : (c : tie.Else3) → leb (start c .args .place + 42) (length (start c .args .results .now)) ≡ true
+room c = passed (c .before .has-room .ensures) (c .if3 .left)
 
-mean-read : (c : tie.After-struct-told) → let n = arguments (made (done c)) .tool-of .result .mv in toZ w64 (ofZ w64 n) ≡ n
-mean-read c = read (arguments (made (done c)) .tool-of .result .mv) (c .struct-told .given .1 .1 .1 .0 .1)
+-- the reply of what the measurement comes to
+made : (c : tie.Else3) → let s = start c in (o : Outcome) → toolOutcome (records s) (given s) ≡ o
+    → (answerOf o ≡ measured s) × (written (s .args .results .now) (s .args .place) (o .numbers) ≡ array s)
+made c o e =
+    let s = start c in
+    rw e at (tool-with-room (records s) (given s) (s .args .results .now) (s .args .place) (room c))
 
-tool-read : (c : tie.After-struct-told2) → let n = arguments (made (done (mean-done c .before))) .tool-of .result .tool in toZ w64 (ofZ w64 n) ≡ n
-tool-read c = read (arguments (made (done (mean-done c .before))) .tool-of .result .tool) (c .struct-told2 .given .1 .0 .1)
+-- ---- the arguments
+tool-of-requires : tie.Need-tool-of-requires
+tool-of-requires c κs = search needs
 
-store-value-requires : tie.Need-store-value-requires
-store-value-requires c κs =
-    let t = done c in
-    (omega (arith, arguments (made t) .before .before .if1 .left), rw (mean-read c) (numbers t .mv))
+tool-refusal-requires : tie.Need-tool-refusal-requires
+tool-refusal-requires c κs = search needs
 
-store-tool-requires : tie.Need-store-tool-requires
-store-tool-requires c κs =
-    let v = mean-done c in
-    let t = done (v .before) in
-    (v .store-value .kept .1 .1 .0 ∙ arguments (made t) .before .before .if1 .left, rw (tool-read c) (numbers t .tool))
+stated : (c : tie.After-tool-refusal) → c .tool-refusal .result ≡ first (toolArguments (given (start (c .before .before))))
+stated c = c .tool-refusal .ensures ∙ ap (λ (a : ToolMeasurement). first (toolArguments a)) (c .before .tool-of .ensures)
 
--- the area after each write
-mean-left : (c : tie.After-store-value) →
-    let w = made (done (c .before)) in
-    let s = start w in
-    c .store-value .last .1 .1 .0 ≡ valueRenewed (s .args .area .now) 41 (w .measure-tool .result .after .memory .means) (toolOf (s .args .numbers .now) .mv)
-mean-left c = rw (mean-read (c .before), arguments (made (done (c .before))) .tool-of .ensures) at (c .store-value .ensures)
+refuse-requires : tie.Need-refuse-requires
+refuse-requires c κs =
+    let q = c .before .before in
+    let e = q .before .before in
+    let s = start e in
+    (rw (stated q) (arguments-small (records s) (given s)), leb-true (s .args .place + 42) (length (s .args .results .now)) (room e))
 
-tool-left : (c : tie.After-store-tool) →
-    let v = mean-done (c .before) in
-    let w = made (done (v .before)) in
-    c .store-tool .last .1 .1 .0 ≡ toolRenewed (v .store-value .last .1 .1 .0) (w .measure-tool .result .after) (toolOf (start w .args .numbers .now) .tool)
-tool-left c =
-    let w = made (done (mean-done (c .before) .before)) in
-    rw (tool-read (c .before), arguments w .tool-of .ensures) at (c .store-tool .ensures)
+same-length : tie.Need-same-length
+same-length c = search needs
 
-decision-of-requires-2 : tie.Need-decision-of-requires-2
-decision-of-requires-2 c κs = search needs
+returns-4 : tie.Need-returns-4
+unfolding toolCalled
+returns-4 c =
+    let f = c .before in
+    let t = f .before .before in
+    let q = t .before in
+    let e = q .before .before in
+    let s = start e in
+    let r = q .tool-refusal .result in
+    let some : r ≡ suc (r - 1) = omega (arith, t .if4 .taken) in
+    let o = arguments-sooner (records s) (given s) (r - 1) (sym (stated q) ∙ some) in
+    rw (f .refuse .ensures .1)
+    (made-reply (s .args .area .now) (right e .before .if1 .left) (s .args .numbers .now) 21 (call s) (measured s) (array s) (s .args .results .now) (right e .if2 .left)
+    (made e (refusedOutcome (records s) r) (o ∙ ap (refusedOutcome (records s)) (sym some)))
+    (f .refuse .ensures .0) (measured-refusal s) (measured-after s) (rw (ne-eqb r 0 (t .if4 .taken))))
+
+-- ---- what the measurement leaves
+abbrev allowed : tie.Else4 → tie.Else3
+allowed c = c .before .before .before
+
+none : (c : tie.Else4) → first (toolArguments (given (start (allowed c)))) ≡ 0
+none c = sym (stated (c .before)) ∙ c .if4 .left
+
+permitted : (c : tie.Else4) → ToolPassed (c .before .before .tool-of .result)
+permitted c = rw (c .before .before .tool-of .ensures) (arguments-passed (given (start (allowed c))) (none c))
+
+tool-records-requires : tie.Need-tool-records-requires
+tool-records-requires c κs = let e = c .before in (right (allowed e) .before .if1 .left, permitted e)
+
+tool-left-requires : tie.Need-tool-left-requires
+tool-left-requires c κs = permitted (c .before .before)
+
+abbrev asked : tie.After-tool-left → tie.Else4
+asked c = c .before .before .before
+
+left : (c : tie.After-tool-left) → let s = start (allowed (asked c)) in c .tool-left .result ≡ toolLeft (recordsOf (records s) (given s)) (given s)
+left c =
+    let s = start (allowed (asked c)) in
+    rw (c .before .tool-records .ensures, asked c .before .before .tool-of .ensures) at (c .tool-left .ensures)
+
+write-results-requires : tie.Need-write-results-requires
+write-results-requires c κs =
+    let e = allowed (asked (c .before .before)) in
+    let s = start e in
+    leb-true (s .args .place + 42) (length (s .args .results .now)) (room e)
+
+put-tool-requires : tie.Need-put-tool-requires
+put-tool-requires c κs =
+    let e = asked (c .before .before .before .before .before) in
+    (right (allowed e) .before .if1 .left, permitted e)
+
+same-length-2 : tie.Need-same-length-2
+same-length-2 c = search needs
 
 same-length-3 : tie.Need-same-length-3
 same-length-3 c = search needs
 
-same-length-4 : tie.Need-same-length-4
-same-length-4 c = search needs
-
-returns-4 : tie.Need-returns-4
-unfolding toolCalled renewedBy
-returns-4 c =
-    let o = c .before .before in
-    let v = mean-done (o .before) in
-    let t = done (v .before) in
-    let w = made t in
-    let e = arguments w .before in
-    let s = start w in
-    done-reply (s .args .area .now) (e .before .if1 .left) (s .args .numbers .now) 21 (call s) (measured s) (array s) (s .args .results .now) (e .if2 .left)
-    (found w) (c .decision-of2 .ensures) (measured-refusal s) (measured-after s) (t .if3 .left)
-    (tool-left o ∙ ap (λ (zs : List ℤ). toolRenewed zs (w .measure-tool .result .after) (toolOf (s .args .numbers .now) .tool)) (mean-left v))
+returns-5 : tie.Need-returns-5
+unfolding toolCalled
+returns-5 c =
+    let f = c .before in
+    let w = f .before .before .before in
+    let l = w .before .before .before in
+    let q = asked l in
+    let e = allowed q in
+    let s = start e in
+    let zs = s .args .area .now in
+    let o = outcome-left (records s) (given s) (none q) ∙ ap (leftOutcome (records s) (given s)) (sym (left l)) in
+    let put = rw (q .before .before .tool-of .ensures) at (f .put-tool .ensures) in
+    rw (w .write-results .ensures)
+    (made-reply zs (right e .before .if1 .left) (s .args .numbers .now) 21 (call s) (measured s) (array s) (s .args .results .now) (right e .if2 .left)
+    (made e (leftOutcome (records s) (given s) (l .tool-left .result)) o) refl (measured-refusal s) (measured-after s)
+    (put ∙ tool-stored zs (right e .before .if1 .left) (given s) (arguments-passed (given s) (none q)) (l .tool-left .result) (s .args .results .now) (s .args .place)))
 
 pub mezhtolik-measure-tool-spec : {M : Type 1} → statement M
 mezhtolik-measure-tool-spec =
@@ -173,16 +209,18 @@ mezhtolik-measure-tool-spec =
     returns
     not-made-requires-2
     returns-2
-    tool-of-requires
-    unpack-requires
-    measure-tool-requires
-    decision-of-requires
-    same-length
-    same-length-2
+    has-room-requires
+    not-made-requires-3
     returns-3
-    store-value-requires
-    store-tool-requires
-    decision-of-requires-2
+    tool-of-requires
+    tool-refusal-requires
+    refuse-requires
+    same-length
+    returns-4
+    tool-records-requires
+    tool-left-requires
+    write-results-requires
+    put-tool-requires
+    same-length-2
     same-length-3
-    same-length-4
-    returns-4)
+    returns-5)

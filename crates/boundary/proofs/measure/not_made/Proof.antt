@@ -1,6 +1,6 @@
 use mathlib.Core.Path.{refl}
-use Rattle.boundary.proofs.not_made.Statement.{statement}
-use Rattle.boundary.proofs.not_made.Tie as tie
+use Rattle.boundary.proofs.measure.not_made.Statement.{statement}
+use Rattle.boundary.proofs.measure.not_made.Tie as tie
 
 returns : tie.Need-returns
 returns c = refl

@@ -1,0 +1,70 @@
+// What a measurement reads of an area, and what it leaves in the area and the result array.
+use crate::Decision;
+use crate::EMPIRICAL;
+use crate::MEANS;
+use crate::read::probe_at;
+use crate::read::value_at;
+use crate::read::wear_at;
+use crate::write::put_value;
+use crate::write::put_wear;
+use measuring::write_results;
+use package::DONE;
+use package::ToolMeasurement;
+use results::refused_numbers;
+use tool_offset::ToolLeft;
+use tool_offset::ToolRecords;
+ghost use mathlib.Core.Path.{_≡_};
+ghost use Prim.Native.Nat.{_≤_, _+_};
+ghost use lib.ListN.{length};
+ghost use Rattle.rules.specs.Results.{refusedResults, written};
+ghost use Rattle.tool_offset.specs.Tool.{ToolPassed, recordsOf};
+ghost use Rattle.boundary.specs.Area.{unpacked};
+ghost use Rattle.boundary.specs.Exports.{stored, undecided};
+ghost use Rattle.boundary.specs.Measurements.{toolPut};
+
+// A measurement that is not made. No call of a user.
+pub fn not_made(refusal: u32) -> Decision
+    ensures { λ r. ⌜ r ≡ undecided refusal ⌝ }
+{
+    Decision {
+        refusal,
+        branch: 0,
+        verdict: 0,
+    }
+}
+
+// A measurement that its arguments refuse: its 42 numbers and its answer. No call of a user.
+pub fn refuse(refusal: u32, results: &mut [i32], place: usize) -> Decision
+    requires { ⌜ refusal ≤ 9 ⌝ }
+    requires { ⌜ place + 42 ≤ length (now results) ⌝ }
+    ensures { λ r. ⌜ (r ≡ undecided refusal) × (now (results .exit) ≡ written (now (results .entry)) place (refusedResults refusal)) ⌝ }
+{
+    write_results(refused_numbers(refusal), results, place);
+    not_made(refusal)
+}
+
+// The records of an area that a measurement with tool offset reads. No call of a user.
+pub fn tool_records(area: &[i32], a: ToolMeasurement) -> ToolRecords
+    requires { ⌜ (length (now area) ≡ 137) × ToolPassed a ⌝ }
+    ensures { λ r. ⌜ r ≡ recordsOf (unpacked (now (area .entry))) a ⌝ }
+{
+    let part = a.part;
+    ToolRecords {
+        probe: probe_at(area, part.probe),
+        ev: value_at(area, EMPIRICAL, a.ev),
+        mean: value_at(area, MEANS, a.mv),
+        wear: wear_at(area, a.tool),
+    }
+}
+
+// Writes the mean value and the wears that a measurement left, where it is done. No call of a user.
+pub fn put_tool(l: ToolLeft, a: ToolMeasurement, area: &mut [i32])
+    requires { ⌜ (length (now area) ≡ 137) × ToolPassed a ⌝ }
+    ensures { λ _. ⌜ now (area .exit) ≡ stored (l .refusal) (toolPut (now (area .entry)) a l) (now (area .entry)) ⌝ }
+{
+    if l.refusal == DONE {
+        let wear = l.wear;
+        put_value(l.mean, a.mv, area, MEANS);
+        put_wear(wear, a.tool, area);
+    }
+}
