@@ -81,7 +81,10 @@ leftFrom o g =
       third = pick (pos 0) (o .axes) (pos 3) +ℤ g .third .by;
     }
 
--- ---- what is found of the probe and the offset
+-- ---- the records that a measurement reads, and what is found of them
+abbrev pub recordsOf : Package → ZeroMeasurement → ZeroRecords
+recordsOf p a = record { probe = probeIn p a; offset = offsetOf p (a .offset) }
+
 unfoldable pub shiftedWith : Probe → Offset → ZeroMeasurement → Shifted
 shiftedWith x o a =
     let sizes = sizesOf x (zeroKindOf a) (a .part) in
@@ -116,26 +119,31 @@ Fit x = SFits w32 (x .first) × SFits w32 (x .second) × SFits w32 (x .third)
 abbrev pub offsetLeft : Axes → Offset
 offsetLeft x = record { axes = x .first ∷ x .second ∷ x .third ∷ [] }
 
--- ---- what is left of the records
-abbrev pub zeroRefused : Offset → ℕ → ZeroLeft
-zeroRefused o n = record { offset = o; refusal = n; branch = 0; verdict = 0; numbers = refusedResults n }
+-- ---- what it leaves of its records, with its answer
+abbrev pub leftRefused : ZeroRecords → ℕ → ZeroLeft
+leftRefused r n = record { offset = r .offset; refusal = n; branch = 0; verdict = 0; numbers = refusedResults n }
 
-abbrev pub zeroStored : ZeroMeasurement → Shifted → ZeroLeft
-zeroStored a s = record { offset = offsetLeft (s .axes); refusal = 0; branch = 6; verdict = 0; numbers = zeroNumbersOf (zeroKindOf a) a (s .sizes) }
+abbrev pub leftDone : ZeroMeasurement → Shifted → ZeroLeft
+leftDone a s = record { offset = offsetLeft (s .axes); refusal = 0; branch = 6; verdict = 0; numbers = zeroNumbersOf (zeroKindOf a) a (s .sizes) }
 
 unfoldable pub zeroLeft : ZeroRecords → ZeroMeasurement → ZeroLeft
-zeroLeft r a = cond (eqb (refusalIn r a) 0) (zeroStored a (shiftedIn r a)) (zeroRefused (r .offset) (refusalIn r a))
+zeroLeft r a = cond (eqb (refusalIn r a) 0) (leftDone a (shiftedIn r a)) (leftRefused r (refusalIn r a))
 
--- ---- the outcome, of what is left
-abbrev pub recordsOf : Package → ZeroMeasurement → ZeroRecords
-recordsOf p a = record { probe = probeIn p a; offset = offsetOf p (a .offset) }
-
-abbrev pub packageLeft : Package → ℤ → ZeroLeft → Package
-packageLeft p offset l = cond (eqb (l .refusal) 0) (withOffset p offset (l .offset)) p
+-- the package with the offset left, and what a measurement comes to
+abbrev pub leftIn : Package → ZeroMeasurement → ZeroLeft → Package
+leftIn p a l = withOffset p (a .offset) (l .offset)
 
 abbrev pub leftOutcome : Package → ZeroMeasurement → ZeroLeft → Outcome
-leftOutcome p a l = record { after = packageLeft p (a .offset) l; refusal = l .refusal; branch = l .branch; verdict = l .verdict; numbers = l .numbers }
+leftOutcome p a l =
+    record {
+      after = cond (eqb (l .refusal) 0) (leftIn p a l) p;
+      refusal = l .refusal;
+      branch = l .branch;
+      verdict = l .verdict;
+      numbers = l .numbers;
+    }
 
+-- ---- the outcome
 abbrev pub zeroAccepted : Package → ZeroMeasurement → Outcome
 zeroAccepted p a = record { after = zeroDone p a; refusal = 0; branch = 6; verdict = 0; numbers = zeroResults p a }
 

@@ -45,7 +45,7 @@ use Rattle.zero_offset.specs.declared.Axes.{Axes}
 use Rattle.zero_offset.specs.declared.Shifted.{Shifted}
 use Rattle.zero_offset.specs.declared.ZeroRecords.{ZeroRecords}
 use Rattle.zero_offset.specs.declared.ZeroLeft.{ZeroLeft}
-use Rattle.zero_offset.specs.Zero.{ZeroPassed, growthIf, growthsFrom, SmallGrowths, growthsOk, leftOk, axesOk, leftFrom, shiftedWith, shiftedIn, testsOf, refusalIn, zeroNumbersOf, Fit, zeroRefused, zeroStored, zeroLeft, recordsOf, leftOutcome, zeroAccepted, zeroOutcome}
+use Rattle.zero_offset.specs.Zero.{ZeroPassed, growthIf, growthsFrom, SmallGrowths, growthsOk, leftOk, axesOk, leftFrom, shiftedWith, shiftedIn, testsOf, refusalIn, zeroNumbersOf, Fit, recordsOf, leftRefused, leftDone, zeroLeft, leftOutcome, zeroAccepted, zeroOutcome}
 
 -- ---- what the rules of the arguments tell
 module _ (a : ZeroMeasurement) (h : ZeroPassed a) where
@@ -220,7 +220,7 @@ module _ (p : Package) (a : ZeroMeasurement) where
   outcomeAt n = cond (eqb n 0) (zeroAccepted p a) (refusedOutcome p n)
 
   abbrev leftAt : ℕ → Shifted → ZeroLeft
-  leftAt n s = cond (eqb n 0) (zeroStored a s) (zeroRefused (offsetOf p (a .offset)) n)
+  leftAt n s = cond (eqb n 0) (leftDone a s) (leftRefused (recordsOf p a) n)
 
   left-is : ZeroPassed a → zeroLeft (recordsOf p a) a ≡ leftAt (first (zeroRecords p a)) (shiftedBy p a)
   unfolding zeroLeft

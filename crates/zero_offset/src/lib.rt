@@ -34,16 +34,16 @@ use sizes::positions_ok;
 use sizes::sizes_of;
 use sizes::widths_ok;
 ghost use mathlib.Core.Path.{_≡_};
-ghost use mathlib.Core.Bool.{true};
+ghost use mathlib.Core.Bool.{true, cond};
 ghost use Prim.Native.Nat.{_≤_};
+ghost use lib.Dec.{eqb};
 ghost use lib.IntN.{pos, natAbs, _+ℤ_};
-ghost use Rattle.rules.specs.Stores.{offsetNumber};
 ghost use Rattle.rules.specs.Kinds.{zeroKind};
 ghost use Rattle.rules.specs.Refusals.{first};
 ghost use Rattle.rules.specs.Sizes.{numbersOk};
 ghost use Rattle.rules.specs.Zero.{zeroKindOf, zeroNumbers, zeroArguments};
 ghost use Rattle.results.specs.Results.{Small, entriesOf};
-ghost use Rattle.zero_offset.specs.Zero.{ZeroPassed, growthIf, growthsFrom, SmallGrowths, growthOk, growthsOk, leftOk, axesOk, leftFrom, shiftedWith, testsOf, zeroNumbersOf, Fit, offsetLeft, zeroLeft, packageLeft, zeroOutcome};
+ghost use Rattle.zero_offset.specs.Zero.{ZeroPassed, growthIf, growthsFrom, SmallGrowths, growthOk, growthsOk, leftOk, axesOk, leftFrom, shiftedWith, testsOf, zeroNumbersOf, Fit, offsetLeft, recordsOf, zeroLeft, leftIn, zeroOutcome};
 
 // Whether an axis of the offset is corrected, and the h that it grows by, 0 where it is not.
 pub struct Growth {
@@ -64,13 +64,13 @@ pub struct Axes {
     pub third: i64,
 }
 
-// The records that a measurement reads.
+// The records that a measurement reads: its probe and its zero offset.
 pub struct ZeroRecords {
     pub probe: Probe,
     pub offset: Offset,
 }
 
-// What a measurement leaves: its offset, as it was where it is refused, its answer and the 42 numbers.
+// What a measurement leaves of its records, its answer and the 42 numbers of the result array. A refused one leaves the offset as it was.
 pub struct ZeroLeft {
     pub offset: Offset,
     pub refusal: u32,
@@ -274,10 +274,10 @@ fn offset_left(x: Axes) -> Offset
     }
 }
 
-// What a measurement whose arguments passed leaves of its records. No call of a user.
+// What a measurement whose arguments passed leaves. No call of a user.
 pub fn zero_left(r: ZeroRecords, a: ZeroMeasurement) -> ZeroLeft
     requires { ⌜ ZeroPassed a ⌝ }
-    ensures { λ x. ⌜ x ≡ zeroLeft r a ⌝ }
+    ensures { λ l. ⌜ l ≡ zeroLeft r a ⌝ }
 {
     let part = a.part;
     let k = zero_kind_of(part.kind);
@@ -305,18 +305,31 @@ pub fn zero_left(r: ZeroRecords, a: ZeroMeasurement) -> ZeroLeft
     }
 }
 
-// The package after a measurement: its offset replaced where it is done.
-fn zero_done(p: Package, offset: i64, l: ZeroLeft) -> Package
-    requires { ⌜ offsetNumber offset ≡ true ⌝ }
-    ensures { λ r. ⌜ r ≡ packageLeft p offset l ⌝ }
+// The records of a package that a measurement whose arguments passed reads.
+fn zero_records(p: Package, a: ZeroMeasurement) -> ZeroRecords
+    requires { ⌜ ZeroPassed a ⌝ }
+    ensures { λ r. ⌜ r ≡ recordsOf p a ⌝ }
+{
+    let part = a.part;
+    let i = index(part.probe);
+    let probe = p.probes[i];
+    let j = index(a.offset);
+    let offset = p.offsets[j];
+    ZeroRecords { probe, offset }
+}
+
+// The package after a measurement that left this, with its offset replaced where it is done.
+fn zero_done(p: Package, a: ZeroMeasurement, l: ZeroLeft) -> Package
+    requires { ⌜ ZeroPassed a ⌝ }
+    ensures { λ r. ⌜ r ≡ cond (eqb (l .refusal) 0) (leftIn p a l) p ⌝ }
 {
     if l.refusal != DONE {
         return p;
     }
-    let i = index(offset);
-    let x = l.offset;
+    let i = index(a.offset);
+    let offset = l.offset;
     let mut after = p;
-    after.offsets[i] = x;
+    after.offsets[i] = offset;
     after
 }
 
@@ -328,17 +341,10 @@ pub fn zero_outcome(p: Package, a: ZeroMeasurement) -> Outcome
     if stated != DONE {
         return refused(p, stated);
     }
-    let part = a.part;
-    let i = index(part.probe);
-    let j = index(a.offset);
-    let records = ZeroRecords {
-        probe: p.probes[i],
-        offset: p.offsets[j],
-    };
-    let l = zero_left(records, a);
+    let l = zero_left(zero_records(p, a), a);
     let numbers = l.numbers;
     Outcome {
-        after: zero_done(p, a.offset, l),
+        after: zero_done(p, a, l),
         refusal: l.refusal,
         branch: l.branch,
         verdict: l.verdict,
