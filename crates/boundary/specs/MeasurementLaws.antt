@@ -1,5 +1,5 @@
--- The reply of a measurement, from what it leaves of its records.
-use mathlib.Core.Path.{_≡_, sym, ap₂}
+-- The area after a measurement, from what it leaves of its records.
+use mathlib.Core.Path.{_≡_, sym, ap, ap₂}
 use mathlib.Core.Bool.{cond}
 use mathlib.Core.List.{List}
 use Prim.Native.Nat.{ℕ, zero, suc}
@@ -8,31 +8,49 @@ use lib.Dec.{eqb}
 use lib.IntN.{ℤ}
 use lib.ListN.{length}
 use borrow.Author.Tests.{ne-eqb}
+use Rattle.package.specs.declared.Package.{Package}
 use Rattle.package.specs.declared.Wear.{Wear}
+use Rattle.package.specs.declared.Offset.{Offset}
 use Rattle.package.specs.declared.ToolMeasurement.{ToolMeasurement}
-use Rattle.rules.specs.Calls.{measureTool}
+use Rattle.package.specs.declared.ZeroMeasurement.{ZeroMeasurement}
+use Rattle.rules.specs.Calls.{Call, measureTool, measureZero}
 use Rattle.rules.specs.MeasuringLaws.{tool-numbers}
-use Rattle.tool_offset.specs.Tool.{ToolPassed, leftIn, leftOutcome}
+use Rattle.tool_offset.specs.Tool.{ToolPassed, toolLeftIn, toolLeftOutcome}
 use Rattle.tool_offset.specs.declared.ToolLeft.{ToolLeft}
-use Rattle.boundary.specs.Area.{meansAt, toolsAt, wearNumbers, unpacked}
+use Rattle.zero_offset.specs.Zero.{ZeroPassed, zeroLeftIn, zeroLeftOutcome}
+use Rattle.zero_offset.specs.ZeroLaws.{offset-passed}
+use Rattle.zero_offset.specs.declared.ZeroLeft.{ZeroLeft}
+use Rattle.boundary.specs.Area.{meansAt, toolsAt, offsetsAt, wearNumbers, offsetNumbers, unpacked}
 use Rattle.boundary.specs.Exports.{replacedAt, renewedBy, stored}
-use Rattle.boundary.specs.Measurements.{toolPut}
-use Rattle.boundary.specs.RecordLaws.{tools-long, means-long, wear-put, value-put}
+use Rattle.boundary.specs.Measurements.{toolPut, zeroPut}
+use Rattle.boundary.specs.RecordLaws.{tools-long, offsets-long, means-long, wear-put, offset-put, value-put}
 
--- the area after a measurement with tool offset that left this, where it is done
-module _ (area : List ℤ) (whole : length area ≡ 137) (a : ToolMeasurement) (passed : ToolPassed a) (l : ToolLeft) where
-  renewed-tool : (array : List ℤ) (place : ℕ) → renewedBy area (leftIn (unpacked area) a l) (measureTool a array place) ≡ toolPut area a l
+module _ (area : List ℤ) (array : List ℤ) (place : ℕ) where
+  -- the package p is left as q where the refusal is 0
+  left-stored : (new : List ℤ) (p q : Package) (c : Call) → renewedBy area q c ≡ new
+      → (n : ℕ) → stored n new area ≡ stored n (renewedBy area (cond (eqb n 0) q p) c) area
+  left-stored new p q c e zero = sym e
+  left-stored new p q c e (suc n) = rw (ne-eqb (suc n) 0 (λ z. omega arith))
+
+  tool-renewed : length area ≡ 137 → (a : ToolMeasurement) → ToolPassed a → (l : ToolLeft)
+      → renewedBy area (toolLeftIn (unpacked area) a l) (measureTool a array place) ≡ toolPut area a l
   unfolding renewedBy
-  renewed-tool array place =
-      let n = tool-numbers a (passed .numbers) in
+  tool-renewed whole a h l =
+      let n = tool-numbers a (h .numbers) in
       ap₂ (λ (zs : List ℤ) (x : Wear). replacedAt zs toolsAt 2 (a .tool) (wearNumbers x))
       (value-put area meansAt (unpacked area .memory .means) (a .mv) (l .mean) (means-long area whole) (n .mv))
       (wear-put (unpacked area) (a .tool) (l .wear) (tools-long area) (n .tool))
 
-  pub tool-stored : (array : List ℤ) (place : ℕ)
-      → stored (l .refusal) (toolPut area a l) area ≡ stored (l .refusal) (renewedBy area (leftOutcome (unpacked area) a l .after) (measureTool a array place)) area
-  tool-stored array place = go (l .refusal)
-    where
-      go : (n : ℕ) → stored n (toolPut area a l) area ≡ stored n (renewedBy area (cond (eqb n 0) (leftIn (unpacked area) a l) (unpacked area)) (measureTool a array place)) area
-      go zero = sym (renewed-tool array place)
-      go (suc n) = rw (ne-eqb (suc n) 0 (λ q. omega arith))
+  pub tool-stored : length area ≡ 137 → (a : ToolMeasurement) → ToolPassed a → (l : ToolLeft)
+      → stored (l .refusal) (toolPut area a l) area ≡ stored (l .refusal) (renewedBy area (toolLeftOutcome (unpacked area) a l .after) (measureTool a array place)) area
+  tool-stored whole a h l = left-stored (toolPut area a l) (unpacked area) (toolLeftIn (unpacked area) a l) (measureTool a array place) (tool-renewed whole a h l) (l .refusal)
+
+  zero-renewed : (a : ZeroMeasurement) → ZeroPassed a → (l : ZeroLeft)
+      → renewedBy area (zeroLeftIn (unpacked area) a l) (measureZero a array place) ≡ zeroPut area a l
+  unfolding renewedBy
+  zero-renewed a h l =
+      ap (λ (x : Offset). replacedAt area offsetsAt 3 (a .offset) (offsetNumbers x)) (offset-put (unpacked area) (a .offset) (l .offset) (offsets-long area) (offset-passed a h))
+
+  pub zero-stored : (a : ZeroMeasurement) → ZeroPassed a → (l : ZeroLeft)
+      → stored (l .refusal) (zeroPut area a l) area ≡ stored (l .refusal) (renewedBy area (zeroLeftOutcome (unpacked area) a l .after) (measureZero a array place)) area
+  zero-stored a h l = left-stored (zeroPut area a l) (unpacked area) (zeroLeftIn (unpacked area) a l) (measureZero a array place) (zero-renewed a h l) (l .refusal)

@@ -5,8 +5,10 @@ mod write;
 
 use crate::measure::not_made;
 use crate::measure::put_tool;
+use crate::measure::put_zero;
 use crate::measure::refuse;
 use crate::measure::tool_records;
+use crate::measure::zero_records;
 use crate::read::read_probe;
 use crate::read::unpack;
 use crate::write::pack;
@@ -18,11 +20,9 @@ use crate::write::write_probe;
 use job_text::arguments::tool_of;
 use job_text::arguments::zero_of;
 use jobs::run_job;
-use measuring::measure_zero;
 use measuring::write_results;
 use package::Calibration;
 use package::DONE;
-use package::Measured;
 use package::NO_ROOM;
 use package::NO_SUCH_NUMBER;
 use package::PROBES;
@@ -39,11 +39,13 @@ use signed::in_range;
 use signed::index;
 use tool_offset::tool_left;
 use tool_offset::tool_refusal;
+use zero_offset::zero_left;
+use zero_offset::zero_refusal;
 ghost use mathlib.Core.Path.{_≡_};
 ghost use lib.ListN.{length};
 ghost use Rattle.rules.specs.Calls.{setEmpirical, setWear, setOffset, calibrate, load};
 ghost use Rattle.boundary.specs.Area.{packed};
-ghost use Rattle.boundary.specs.Exports.{stored, left, called, freshCalled, calibration, statusCalled, savedAs, saveCalled, reply, decided, toolCalled, zeroCalled, jobLeft, jobCalled};
+ghost use Rattle.boundary.specs.Exports.{stored, left, called, freshCalled, calibration, statusCalled, savedAs, saveCalled, reply, toolCalled, zeroCalled, jobLeft, jobCalled};
 
 // Refusals of this crate alone: an area that has not 137 numbers; arguments that are not as many as a measurement's.
 pub const WRONG_AREA: u32 = 100;
@@ -96,17 +98,6 @@ fn store_done(after: Package, refusal: u32, area: &mut [i32])
 {
     if refusal == DONE {
         pack(after, area);
-    }
-}
-
-// What a measurement answered, for its caller.
-fn decision_of(m: Measured) -> Decision
-    ensures { λ r. ⌜ r ≡ decided m ⌝ }
-{
-    Decision {
-        refusal: m.refusal,
-        branch: m.branch,
-        verdict: m.verdict,
     }
 }
 
@@ -284,13 +275,23 @@ pub extern "C" fn mezhtolik_measure_zero(
     if numbers.len() != ZERO_NUMBERS {
         return not_made(WRONG_ARGUMENTS);
     }
-    let a = zero_of(numbers);
-    let m = measure_zero(unpack(&area[..]), a, results, place);
-    if m.refusal != DONE {
-        return decision_of(m);
+    if !has_room(results.len(), place) {
+        return not_made(NO_ROOM);
     }
-    store_offset(m.after, a.offset, area);
-    decision_of(m)
+    let a = zero_of(numbers);
+    let stated = zero_refusal(a);
+    if stated != DONE {
+        return refuse(stated, results, place);
+    }
+    let l = zero_left(zero_records(&area[..], a), a);
+    let found = l.numbers;
+    write_results(found, results, place);
+    put_zero(l, a, area);
+    Decision {
+        refusal: l.refusal,
+        branch: l.branch,
+        verdict: l.verdict,
+    }
 }
 
 // Replaces all empirical and mean values by those of a block of 80 bytes.

@@ -2,25 +2,31 @@
 use crate::Decision;
 use crate::EMPIRICAL;
 use crate::MEANS;
+use crate::read::offset_at;
 use crate::read::probe_at;
 use crate::read::value_at;
 use crate::read::wear_at;
+use crate::write::put_offset;
 use crate::write::put_value;
 use crate::write::put_wear;
 use measuring::write_results;
 use package::DONE;
 use package::ToolMeasurement;
+use package::ZeroMeasurement;
 use results::refused_numbers;
 use tool_offset::ToolLeft;
 use tool_offset::ToolRecords;
+use zero_offset::ZeroLeft;
+use zero_offset::ZeroRecords;
 ghost use mathlib.Core.Path.{_≡_};
 ghost use Prim.Native.Nat.{_≤_, _+_};
 ghost use lib.ListN.{length};
 ghost use Rattle.rules.specs.Results.{refusedResults, written};
-ghost use Rattle.tool_offset.specs.Tool.{ToolPassed, recordsOf};
+ghost use Rattle.tool_offset.specs.Tool.{ToolPassed, toolRecordsOf};
+ghost use Rattle.zero_offset.specs.Zero.{ZeroPassed, zeroRecordsOf};
 ghost use Rattle.boundary.specs.Area.{unpacked};
 ghost use Rattle.boundary.specs.Exports.{stored, undecided};
-ghost use Rattle.boundary.specs.Measurements.{toolPut};
+ghost use Rattle.boundary.specs.Measurements.{toolPut, zeroPut};
 
 // A measurement that is not made. No call of a user.
 pub fn not_made(refusal: u32) -> Decision
@@ -46,7 +52,7 @@ pub fn refuse(refusal: u32, results: &mut [i32], place: usize) -> Decision
 // The records of an area that a measurement with tool offset reads. No call of a user.
 pub fn tool_records(area: &[i32], a: ToolMeasurement) -> ToolRecords
     requires { ⌜ (length (now area) ≡ 137) × ToolPassed a ⌝ }
-    ensures { λ r. ⌜ r ≡ recordsOf (unpacked (now (area .entry))) a ⌝ }
+    ensures { λ r. ⌜ r ≡ toolRecordsOf (unpacked (now (area .entry))) a ⌝ }
 {
     let part = a.part;
     ToolRecords {
@@ -66,5 +72,28 @@ pub fn put_tool(l: ToolLeft, a: ToolMeasurement, area: &mut [i32])
         let wear = l.wear;
         put_value(l.mean, a.mv, area, MEANS);
         put_wear(wear, a.tool, area);
+    }
+}
+
+// The records of an area that a measurement with zero offset reads. No call of a user.
+pub fn zero_records(area: &[i32], a: ZeroMeasurement) -> ZeroRecords
+    requires { ⌜ (length (now area) ≡ 137) × ZeroPassed a ⌝ }
+    ensures { λ r. ⌜ r ≡ zeroRecordsOf (unpacked (now (area .entry))) a ⌝ }
+{
+    let part = a.part;
+    ZeroRecords {
+        probe: probe_at(area, part.probe),
+        offset: offset_at(area, a.offset),
+    }
+}
+
+// Writes the zero offset that a measurement left, where it is done. No call of a user.
+pub fn put_zero(l: ZeroLeft, a: ZeroMeasurement, area: &mut [i32])
+    requires { ⌜ (length (now area) ≡ 137) × ZeroPassed a ⌝ }
+    ensures { λ _. ⌜ now (area .exit) ≡ stored (l .refusal) (zeroPut (now (area .entry)) a l) (now (area .entry)) ⌝ }
+{
+    if l.refusal == DONE {
+        let offset = l.offset;
+        put_offset(offset, a.offset, area);
     }
 }

@@ -19,7 +19,7 @@ use Rattle.rules.specs.Measuring.{toolMeasured, toolArray}
 use Rattle.rules.specs.Calls.{Call, measureTool, refusal, step}
 use Rattle.results.specs.Results.{refusedOutcome, answerOf}
 use Rattle.results.specs.declared.Outcome.{Outcome}
-use Rattle.tool_offset.specs.Tool.{ToolPassed, recordsOf, toolLeft, leftOutcome, toolOutcome}
+use Rattle.tool_offset.specs.Tool.{ToolPassed, toolRecordsOf, toolLeft, toolLeftOutcome, toolOutcome}
 use Rattle.tool_offset.specs.ToolLaws.{arguments-passed, arguments-sooner, arguments-small, outcome-left}
 use Rattle.measuring.specs.CallLaws.{tool-no-room, tool-with-room}
 use Rattle.job_text.specs.Letters.{toolOf}
@@ -122,7 +122,7 @@ refuse-requires c κs =
     let q = c .before .before in
     let e = q .before .before in
     let s = start e in
-    (rw (stated q) (arguments-small (records s) (given s)), leb-true (s .args .place + 42) (length (s .args .results .now)) (room e))
+    (rw (stated q) (arguments-small (given s)), leb-true (s .args .place + 42) (length (s .args .results .now)) (room e))
 
 same-length : tie.Need-same-length
 same-length c = search needs
@@ -162,7 +162,7 @@ tool-left-requires c κs = permitted (c .before .before)
 abbrev asked : tie.After-tool-left → tie.Else4
 asked c = c .before .before .before
 
-left : (c : tie.After-tool-left) → let s = start (allowed (asked c)) in c .tool-left .result ≡ toolLeft (recordsOf (records s) (given s)) (given s)
+left : (c : tie.After-tool-left) → let s = start (allowed (asked c)) in c .tool-left .result ≡ toolLeft (toolRecordsOf (records s) (given s)) (given s)
 left c =
     let s = start (allowed (asked c)) in
     rw (c .before .tool-records .ensures, asked c .before .before .tool-of .ensures) at (c .tool-left .ensures)
@@ -194,12 +194,12 @@ returns-5 c =
     let e = allowed q in
     let s = start e in
     let zs = s .args .area .now in
-    let o = outcome-left (records s) (given s) (none q) ∙ ap (leftOutcome (records s) (given s)) (sym (left l)) in
+    let o = outcome-left (records s) (given s) (none q) ∙ ap (toolLeftOutcome (records s) (given s)) (sym (left l)) in
     let put = rw (q .before .before .tool-of .ensures) at (f .put-tool .ensures) in
     rw (w .write-results .ensures)
     (made-reply zs (right e .before .if1 .left) (s .args .numbers .now) 21 (call s) (measured s) (array s) (s .args .results .now) (right e .if2 .left)
-    (made e (leftOutcome (records s) (given s) (l .tool-left .result)) o) refl (measured-refusal s) (measured-after s)
-    (put ∙ tool-stored zs (right e .before .if1 .left) (given s) (arguments-passed (given s) (none q)) (l .tool-left .result) (s .args .results .now) (s .args .place)))
+    (made e (toolLeftOutcome (records s) (given s) (l .tool-left .result)) o) refl (measured-refusal s) (measured-after s)
+    (put ∙ tool-stored zs (s .args .results .now) (s .args .place) (right e .before .if1 .left) (given s) (arguments-passed (given s) (none q)) (l .tool-left .result)))
 
 pub mezhtolik-measure-tool-spec : {M : Type 1} → statement M
 mezhtolik-measure-tool-spec =

@@ -1,40 +1,56 @@
 use mathlib.Core.Path.{_≡_, refl, sym, ap, _∙_}
 use mathlib.Core.Bool.{true}
 use mathlib.Core.List.{List}
+use Prim.Native.Nat.{suc, _+_, _-_}
+use native.Mathlib.Omega.{arith}
+use lib.Dec.{leb}
 use lib.IntN.{ℤ}
-use mir.Syntax.{w64}
-use mir.Val.{ofZ, toZ}
+use lib.ListN.{length}
 use borrow.Author.Needs.{needs}
-use Rattle.signed.specs.CodeLaws.{read}
+use borrow.Author.Tests.{leb-true, ne-eqb}
+use Rattle.signed.specs.CodeLaws.{failed, passed}
+use Rattle.package.specs.declared.Package.{Package}
+use Rattle.package.specs.declared.ZeroMeasurement.{ZeroMeasurement}
 use Rattle.package.specs.declared.Measured.{Measured}
-use Rattle.rules.specs.Stores.{offsetNumber}
-use Rattle.rules.specs.Zero.{zeroArguments, zeroRecords}
+use Rattle.rules.specs.Refusals.{first}
+use Rattle.rules.specs.Results.{written}
+use Rattle.rules.specs.Zero.{zeroArguments}
 use Rattle.rules.specs.Measuring.{zeroMeasured, zeroArray}
-use Rattle.rules.specs.MeasuringLaws.{zero-numbers}
-use Rattle.rules.specs.RefusalLaws.{all-passed}
-use Rattle.rules.specs.Calls.{Call, measureZero, rules, refusal, step}
+use Rattle.rules.specs.Calls.{Call, measureZero, refusal, step}
+use Rattle.results.specs.Results.{refusedOutcome, answerOf}
+use Rattle.results.specs.declared.Outcome.{Outcome}
+use Rattle.zero_offset.specs.Zero.{ZeroPassed, zeroRecordsOf, zeroLeft, zeroLeftOutcome, zeroOutcome}
+use Rattle.zero_offset.specs.ZeroLaws.{arguments-passed, arguments-sooner, arguments-small, outcome-left}
+use Rattle.measuring.specs.CallLaws.{zero-no-room, zero-with-room}
 use Rattle.job_text.specs.Letters.{zeroOf}
 use Rattle.boundary.specs.Area.{unpacked}
-use Rattle.boundary.specs.Exports.{renewedBy, zeroCalled}
-use Rattle.boundary.specs.ExportLaws.{wrong-reply, wrong-arguments, done-reply, refused-reply}
+use Rattle.boundary.specs.Exports.{zeroCalled}
+use Rattle.boundary.specs.ExportLaws.{wrong-reply, wrong-arguments, made-reply}
+use Rattle.boundary.specs.MeasurementLaws.{zero-stored}
 use Rattle.boundary.proofs.mezhtolik_measure_zero.Statement.{statement}
 use Rattle.boundary.proofs.mezhtolik_measure_zero.Tie as tie
 
+abbrev records : tie.Start → Package
+records s = unpacked (s .args .area .now)
+
+abbrev given : tie.Start → ZeroMeasurement
+given s = zeroOf (s .args .numbers .now)
+
 abbrev call : tie.Start → Call
-call s = measureZero (zeroOf (s .args .numbers .now)) (s .args .results .now) (s .args .place)
+call s = measureZero (given s) (s .args .results .now) (s .args .place)
 
 -- what the core answers, and the array after it
 abbrev measured : tie.Start → Measured
-measured s = zeroMeasured (unpacked (s .args .area .now)) (zeroOf (s .args .numbers .now)) (s .args .results .now) (s .args .place)
+measured s = zeroMeasured (records s) (given s) (s .args .results .now) (s .args .place)
 
 abbrev array : tie.Start → List ℤ
-array s = zeroArray (unpacked (s .args .area .now)) (zeroOf (s .args .numbers .now)) (s .args .results .now) (s .args .place)
+array s = zeroArray (records s) (given s) (s .args .results .now) (s .args .place)
 
-measured-refusal : (s : tie.Start) → measured s .refusal ≡ refusal (unpacked (s .args .area .now)) (call s)
+measured-refusal : (s : tie.Start) → measured s .refusal ≡ refusal (records s) (call s)
 unfolding zeroMeasured
 measured-refusal s = refl
 
-measured-after : (s : tie.Start) → measured s .after ≡ step (unpacked (s .args .area .now)) (call s)
+measured-after : (s : tie.Start) → measured s .after ≡ step (records s) (call s)
 unfolding zeroMeasured
 measured-after s = refl
 
@@ -57,84 +73,133 @@ returns-2 c =
     let s = e .before in
     wrong-arguments (s .args .area .now) (e .if1 .left) (s .args .numbers .now) 13 (call s) (measured s) (array s) (s .args .results .now) (c .before .if2 .taken) (c .not-made2 .ensures)
 
-zero-of-requires : tie.Need-zero-of-requires
-zero-of-requires c κs = search needs
+-- ---- the room
+has-room-requires : tie.Need-has-room-requires
+has-room-requires c κs = search needs
 
-unpack-requires : tie.Need-unpack-requires
-unpack-requires c κs = search needs
-
-measure-zero-requires : tie.Need-measure-zero-requires
-measure-zero-requires c κs = search needs
-
-decision-of-requires : tie.Need-decision-of-requires
-decision-of-requires c κs = search needs
-
-same-length : tie.Need-same-length
-same-length c = search needs
-
-same-length-2 : tie.Need-same-length-2
-same-length-2 c = search needs
-
-abbrev arguments : tie.After-measure-zero → tie.After-zero-of
-arguments c = c .before .before .before .before
-
-abbrev start : tie.After-measure-zero → tie.Start
-start c = arguments c .before .before .before
-
-found : (c : tie.After-measure-zero) → (c .measure-zero .result ≡ measured (start c)) × (c .measure-zero .last .1 .1 .0 ≡ array (start c))
-found c = rw (c .before .before .unpack .ensures, arguments c .zero-of .ensures) at (c .measure-zero .ensures)
-
-abbrev made : tie.Else3 → tie.After-measure-zero
-made c = c .before .before .before
-
-passed : (c : tie.Else3) → let s = start (made c) in refusal (unpacked (s .args .area .now)) (call s) ≡ 0
-passed c = sym (measured-refusal (start (made c))) ∙ ap (λ (m : Measured). m .refusal) (sym (found (made c) .0)) ∙ c .if3 .left
+not-made-requires-3 : tie.Need-not-made-requires-3
+not-made-requires-3 c κs = search needs
 
 returns-3 : tie.Need-returns-3
 unfolding zeroCalled
 returns-3 c =
-    let w = c .before .before .before .before in
-    let e = arguments w .before in
-    let s = start w in
-    refused-reply (s .args .area .now) (e .before .if1 .left) (s .args .numbers .now) 13 (call s) (measured s) (array s) (s .args .results .now) (e .if2 .left)
-    (found w) (c .decision-of .ensures) (c .before .if3 .taken)
+    let t = c .before in
+    let e = t .before .before in
+    let s = e .before .before in
+    made-reply (s .args .area .now) (e .before .if1 .left) (s .args .numbers .now) 13 (call s) (measured s) (array s) (s .args .results .now) (e .if2 .left)
+    (zero-no-room (records s) (given s) (s .args .results .now) (s .args .place) (failed (t .before .has-room .ensures) (t .if3 .taken)))
+    (c .not-made3 .ensures) (measured-refusal s) (measured-after s) refl
 
-number : (c : tie.Else3) → offsetNumber (arguments (made c) .zero-of .result .offset) ≡ true
-unfolding refusal zeroArguments zeroRecords
-number c =
-    let s = start (made c) in
-    let a = zeroOf (s .args .numbers .now) in
-    rw (arguments (made c) .zero-of .ensures) (zero-numbers a (all-passed (rules (unpacked (s .args .area .now)) (call s)) tt (passed c) .1 .0) .offset)
+-- where there is room: both lengths are right
+abbrev right : tie.Else3 → tie.Else2
+right c = c .before .before
 
-abbrev done : tie.After-struct-told → tie.Else3
-done c = c .before .before
+abbrev start : tie.Else3 → tie.Start
+start c = right c .before .before
 
-offset-read : (c : tie.After-struct-told) → let n = arguments (made (done c)) .zero-of .result .offset in toZ w64 (ofZ w64 n) ≡ n
-offset-read c = read (arguments (made (done c)) .zero-of .result .offset) (c .struct-told .given .1 .0 .1)
+room : (c : tie.Else3) → leb (start c .args .place + 42) (length (start c .args .results .now)) ≡ true
+room c = passed (c .before .has-room .ensures) (c .if3 .left)
 
-store-offset-requires : tie.Need-store-offset-requires
-store-offset-requires c κs = (arguments (made (done c)) .before .before .if1 .left, rw (offset-read c) (number (done c)))
+-- the reply of what the measurement comes to
+made : (c : tie.Else3) → let s = start c in (o : Outcome) → zeroOutcome (records s) (given s) ≡ o
+    → (answerOf o ≡ measured s) × (written (s .args .results .now) (s .args .place) (o .numbers) ≡ array s)
+made c o e =
+    let s = start c in
+    rw e at (zero-with-room (records s) (given s) (s .args .results .now) (s .args .place) (room c))
 
-decision-of-requires-2 : tie.Need-decision-of-requires-2
-decision-of-requires-2 c κs = search needs
+-- ---- the arguments
+zero-of-requires : tie.Need-zero-of-requires
+zero-of-requires c κs = search needs
+
+zero-refusal-requires : tie.Need-zero-refusal-requires
+zero-refusal-requires c κs = search needs
+
+stated : (c : tie.After-zero-refusal) → c .zero-refusal .result ≡ first (zeroArguments (given (start (c .before .before))))
+stated c = c .zero-refusal .ensures ∙ ap (λ (a : ZeroMeasurement). first (zeroArguments a)) (c .before .zero-of .ensures)
+
+refuse-requires : tie.Need-refuse-requires
+refuse-requires c κs =
+    let q = c .before .before in
+    let e = q .before .before in
+    let s = start e in
+    (rw (stated q) (arguments-small (given s)), leb-true (s .args .place + 42) (length (s .args .results .now)) (room e))
+
+same-length : tie.Need-same-length
+same-length c = search needs
+
+returns-4 : tie.Need-returns-4
+unfolding zeroCalled
+returns-4 c =
+    let f = c .before in
+    let t = f .before .before in
+    let q = t .before in
+    let e = q .before .before in
+    let s = start e in
+    let r = q .zero-refusal .result in
+    let some : r ≡ suc (r - 1) = omega (arith, t .if4 .taken) in
+    let o = arguments-sooner (records s) (given s) (r - 1) (sym (stated q) ∙ some) in
+    rw (f .refuse .ensures .1)
+    (made-reply (s .args .area .now) (right e .before .if1 .left) (s .args .numbers .now) 13 (call s) (measured s) (array s) (s .args .results .now) (right e .if2 .left)
+    (made e (refusedOutcome (records s) r) (o ∙ ap (refusedOutcome (records s)) (sym some)))
+    (f .refuse .ensures .0) (measured-refusal s) (measured-after s) (rw (ne-eqb r 0 (t .if4 .taken))))
+
+-- ---- what the measurement leaves
+abbrev allowed : tie.Else4 → tie.Else3
+allowed c = c .before .before .before
+
+none : (c : tie.Else4) → first (zeroArguments (given (start (allowed c)))) ≡ 0
+none c = sym (stated (c .before)) ∙ c .if4 .left
+
+permitted : (c : tie.Else4) → ZeroPassed (c .before .before .zero-of .result)
+permitted c = rw (c .before .before .zero-of .ensures) (arguments-passed (given (start (allowed c))) (none c))
+
+zero-records-requires : tie.Need-zero-records-requires
+zero-records-requires c κs = let e = c .before in (right (allowed e) .before .if1 .left, permitted e)
+
+zero-left-requires : tie.Need-zero-left-requires
+zero-left-requires c κs = permitted (c .before .before)
+
+abbrev asked : tie.After-zero-left → tie.Else4
+asked c = c .before .before .before
+
+left : (c : tie.After-zero-left) → let s = start (allowed (asked c)) in c .zero-left .result ≡ zeroLeft (zeroRecordsOf (records s) (given s)) (given s)
+left c =
+    let s = start (allowed (asked c)) in
+    rw (c .before .zero-records .ensures, asked c .before .before .zero-of .ensures) at (c .zero-left .ensures)
+
+write-results-requires : tie.Need-write-results-requires
+write-results-requires c κs =
+    let e = allowed (asked (c .before .before)) in
+    let s = start e in
+    leb-true (s .args .place + 42) (length (s .args .results .now)) (room e)
+
+put-zero-requires : tie.Need-put-zero-requires
+put-zero-requires c κs =
+    let e = asked (c .before .before .before .before .before) in
+    (right (allowed e) .before .if1 .left, permitted e)
+
+same-length-2 : tie.Need-same-length-2
+same-length-2 c = search needs
 
 same-length-3 : tie.Need-same-length-3
 same-length-3 c = search needs
 
-same-length-4 : tie.Need-same-length-4
-same-length-4 c = search needs
-
-returns-4 : tie.Need-returns-4
-unfolding zeroCalled renewedBy
-returns-4 c =
-    let o = c .before .before in
-    let t = done (o .before) in
-    let w = made t in
-    let e = arguments w .before in
-    let s = start w in
-    done-reply (s .args .area .now) (e .before .if1 .left) (s .args .numbers .now) 13 (call s) (measured s) (array s) (s .args .results .now) (e .if2 .left)
-    (found w) (c .decision-of2 .ensures) (measured-refusal s) (measured-after s) (t .if3 .left)
-    (rw (offset-read (o .before), arguments w .zero-of .ensures) at (o .store-offset .ensures))
+returns-5 : tie.Need-returns-5
+unfolding zeroCalled
+returns-5 c =
+    let f = c .before in
+    let w = f .before .before .before in
+    let l = w .before .before .before in
+    let q = asked l in
+    let e = allowed q in
+    let s = start e in
+    let zs = s .args .area .now in
+    let o = outcome-left (records s) (given s) (none q) ∙ ap (zeroLeftOutcome (records s) (given s)) (sym (left l)) in
+    let put = rw (q .before .before .zero-of .ensures) at (f .put-zero .ensures) in
+    rw (w .write-results .ensures)
+    (made-reply zs (right e .before .if1 .left) (s .args .numbers .now) 13 (call s) (measured s) (array s) (s .args .results .now) (right e .if2 .left)
+    (made e (zeroLeftOutcome (records s) (given s) (l .zero-left .result)) o) refl (measured-refusal s) (measured-after s)
+    (put ∙ zero-stored zs (s .args .results .now) (s .args .place) (given s) (arguments-passed (given s) (none q)) (l .zero-left .result)))
 
 pub mezhtolik-measure-zero-spec : {M : Type 1} → statement M
 mezhtolik-measure-zero-spec =
@@ -144,15 +209,18 @@ mezhtolik-measure-zero-spec =
     returns
     not-made-requires-2
     returns-2
-    zero-of-requires
-    unpack-requires
-    measure-zero-requires
-    decision-of-requires
-    same-length
-    same-length-2
+    has-room-requires
+    not-made-requires-3
     returns-3
-    store-offset-requires
-    decision-of-requires-2
+    zero-of-requires
+    zero-refusal-requires
+    refuse-requires
+    same-length
+    returns-4
+    zero-records-requires
+    zero-left-requires
+    write-results-requires
+    put-zero-requires
+    same-length-2
     same-length-3
-    same-length-4
-    returns-4)
+    returns-5)
