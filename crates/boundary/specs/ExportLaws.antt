@@ -13,7 +13,7 @@ use Rattle.package.specs.declared.Answer.{Answer}
 use Rattle.package.specs.declared.Measured.{Measured}
 use Rattle.rules.specs.Block.{saved}
 use Rattle.rules.specs.Status.{statusRead}
-use Rattle.rules.specs.RefusalLaws.{Numbered, Passed, all-passed}
+use Rattle.rules.specs.Refusals.{first}
 use Rattle.rules.specs.Calls.{Call, save, rules, refusal, done, step, answered}
 use Rattle.jobs.specs.Jobs.{jobRan, jobOutput}
 use Rattle.jobs.specs.declared.Ran.{Ran}
@@ -54,14 +54,10 @@ module _ (area : List ℤ) (right : length area ≡ 137) where
   whole : wholeArea area ≡ true
   whole = eq-eqb (length area) 137 right
 
-  -- a call that is done, where every rule passed, and one that is refused
+  -- a call that is done, and one that is refused
   none-refuses : (c : Call) {a : Answer} → a ≡ answered (unpacked area) c → a .refusal ≡ 0 → refusal (unpacked area) c ≡ 0
   unfolding answered
   none-refuses c e z = rw e at z
-
-  pub passes : (c : Call) {a : Answer} → Numbered (rules (unpacked area) c) → a ≡ answered (unpacked area) c → a .refusal ≡ 0 → Passed (rules (unpacked area) c)
-  unfolding refusal
-  passes c n e z = all-passed (rules (unpacked area) c) n (none-refuses c e z)
 
   pub done-call : (c : Call) {a : Answer} {after : List ℤ} → a ≡ answered (unpacked area) c → a .refusal ≡ 0
       → after ≡ renewedBy area (a .after) c → left (a .refusal) after ≡ called area c
@@ -71,6 +67,15 @@ module _ (area : List ℤ) (right : length area ≡ 137) where
   pub refused-call : (c : Call) {a : Answer} → a ≡ answered (unpacked area) c → (a .refusal ≡ 0 → ⊥) → left (a .refusal) area ≡ called area c
   unfolding called answered
   refused-call c e n = rw (whole, e, ne-eqb (refusal (unpacked area) c) 0 (rw e at n))
+
+  -- the same by the number that the rules give
+  pub call-done : (c : Call) {after : List ℤ} → first (rules (unpacked area) c) ≡ 0 → after ≡ renewedBy area (done (unpacked area) c) c → left 0 after ≡ called area c
+  unfolding called refusal renewed
+  call-done c z h = rw (whole, h, z)
+
+  pub call-refused : (c : Call) {r : ℕ} → r ≡ first (rules (unpacked area) c) → (r ≡ 0 → ⊥) → left r area ≡ called area c
+  unfolding called refusal
+  call-refused c e n = rw (whole, e, ne-eqb (first (rules (unpacked area) c)) 0 (rw e at n))
 
   pub right-fresh : {after : List ℤ} → after ≡ packed freshPackage → left 0 after ≡ freshCalled area
   unfolding freshCalled

@@ -1,5 +1,5 @@
--- The area in place: what code writes to it, one number or a part as the borrow checker has it; a probe that is read from it and written to it; and the
--- sections of an area some of whose numbers are replaced.
+-- The area in place: what code writes to it, one number or a part as the borrow checker has it; a record that is read from it, a probe that is written to
+-- it; and the sections of an area some of whose numbers are replaced.
 use mathlib.Core.Path.{_≡_, refl, sym, ap, subst, _∙_}
 use mathlib.Core.List.{List, [], _∷_, _++_, append-assoc, map}
 use Prim.Native.Nat.{ℕ, zero, suc, _+_, _-_, _*_, _≤_, _<_}
@@ -136,7 +136,7 @@ pub section-within : (zs : List ℤ) (at n j : ℕ) (xs : List ℤ) → j + leng
 section-within zs at n j xs h k =
     ap (take n) (drop-replaced zs at j xs (omega arith)) ∙ take-replaced (drop at zs) n j xs h (simp length-drop (omega arith))
 
--- ---- a record of a store, and a value of a list
+-- ---- a value of a list, and a record of a store
 map-set : {A B : Type 0} (f : A → B) (xs : List A) (i : ℕ) (x : A) → map f (set xs i x) ≡ set (map f xs) i (f x)
 map-set f [] i x = refl
 map-set f (y ∷ ys) zero x = refl

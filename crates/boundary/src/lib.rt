@@ -9,9 +9,13 @@ use crate::measure::put_zero;
 use crate::measure::refuse;
 use crate::measure::tool_records;
 use crate::measure::zero_records;
+use crate::read::read_memory;
 use crate::read::read_probe;
 use crate::read::unpack;
 use crate::write::pack;
+use crate::write::put_offset;
+use crate::write::put_value;
+use crate::write::put_wear;
 use crate::write::store_offset;
 use crate::write::store_tool;
 use crate::write::store_value;
@@ -25,16 +29,18 @@ use package::Calibration;
 use package::DONE;
 use package::NO_ROOM;
 use package::NO_SUCH_NUMBER;
+use package::Offset;
 use package::PROBES;
 use package::Package;
+use package::Wear;
 use package::fresh;
 use probes::calibrate_probe;
 use probes::probe_status;
-use records::save;
-use records::set_empirical;
-use records::set_offset;
-use records::set_wear;
 use results::has_room;
+use records::empirical_refusal;
+use records::offset_refusal;
+use records::save_memory;
+use records::wear_refusal;
 use signed::in_range;
 use signed::index;
 use tool_offset::tool_left;
@@ -121,14 +127,12 @@ pub extern "C" fn mezhtolik_set_empirical(area: &mut [i32], ev: i64, value: i64)
     if area.len() != AREA {
         return WRONG_AREA;
     }
-    let a = set_empirical(unpack(&area[..]), ev, value);
-    if a.refusal == DONE {
-        let after = a.after;
-        let memory = after.memory;
-        let empirical = memory.empirical;
-        store_value(empirical, ev, area, EMPIRICAL);
+    let refusal = empirical_refusal(ev, value);
+    if refusal != DONE {
+        return refusal;
     }
-    a.refusal
+    put_value(value as i16, ev, area, EMPIRICAL);
+    DONE
 }
 
 // Replaces one tool's two wears.
@@ -139,11 +143,16 @@ pub extern "C" fn mezhtolik_set_wear(area: &mut [i32], tool: i64, radius: i64, l
     if area.len() != AREA {
         return WRONG_AREA;
     }
-    let a = set_wear(unpack(&area[..]), tool, radius, length);
-    if a.refusal == DONE {
-        store_tool(a.after, tool, area);
+    let refusal = wear_refusal(tool, radius, length);
+    if refusal != DONE {
+        return refusal;
     }
-    a.refusal
+    let x = Wear {
+        radius: radius as i32,
+        length: length as i32,
+    };
+    put_wear(x, tool, area);
+    DONE
 }
 
 // Replaces one zero offset on its three axes.
@@ -160,11 +169,15 @@ pub extern "C" fn mezhtolik_set_offset(
     if area.len() != AREA {
         return WRONG_AREA;
     }
-    let a = set_offset(unpack(&area[..]), offset, v1, v2, v3);
-    if a.refusal == DONE {
-        store_offset(a.after, offset, area);
+    let refusal = offset_refusal(offset, v1, v2, v3);
+    if refusal != DONE {
+        return refusal;
     }
-    a.refusal
+    let x = Offset {
+        axes: [v1 as i32, v2 as i32, v3 as i32],
+    };
+    put_offset(x, offset, area);
+    DONE
 }
 
 // Calibrates one direction of a probe.
@@ -317,7 +330,7 @@ pub extern "C" fn mezhtolik_save(area: &[i32], buffer: &mut [u8]) -> u32
     if area.len() != AREA {
         return WRONG_AREA;
     }
-    save(unpack(area), buffer)
+    save_memory(read_memory(area), buffer)
 }
 
 // Runs a job on the records of the area and writes the answers of its lines to the front of the output.

@@ -51,6 +51,16 @@ fn read_values(part: &[i32]) -> [i16; 20]
     values
 }
 
+// The empirical and mean values of an area. No call of a user.
+pub fn read_memory(area: &[i32]) -> Memory
+    requires { ⌜ length (now area) ≡ 137 ⌝ }
+    ensures { λ r. ⌜ r ≡ unpacked (now (area .entry)) .memory ⌝ }
+{
+    let empirical = read_values(&area[EMPIRICAL..MEANS]);
+    let means = read_values(&area[MEANS..TOOLS]);
+    Memory { empirical, means }
+}
+
 // One of the 20 values of the section that starts at a place; number 0 names none. No call of a user.
 pub fn value_at(area: &[i32], at: usize, n: i64) -> i16
     requires { ⌜ at + 20 ≤ length (now area) ⌝ }
@@ -185,11 +195,9 @@ pub fn unpack(area: &[i32]) -> Package
     ensures { λ r. ⌜ r ≡ unpacked (now (area .entry)) ⌝ }
 {
     let probes = read_probes(&area[..EMPIRICAL]);
-    let empirical = read_values(&area[EMPIRICAL..MEANS]);
-    let means = read_values(&area[MEANS..TOOLS]);
+    let memory = read_memory(area);
     let tools = read_tools(&area[TOOLS..OFFSETS]);
     let offsets = read_offsets(&area[OFFSETS..AREA]);
-    let memory = Memory { empirical, means };
     Package {
         probes,
         memory,

@@ -7,11 +7,9 @@ use lib.ListN.{length, take, drop, length-take, take-append-drop}
 use borrow.Author.Needs.{needs}
 use borrow.Author.Tests.{ne-eqb, eq-eqb}
 use Rattle.rules.specs.Block.{words}
-use Rattle.rules.specs.Calls.{load, refusal}
-use Rattle.rules.specs.CallLaws.{refused, accepted}
-use Rattle.boundary.specs.Area.{unpacked}
+use Rattle.rules.specs.Calls.{load}
 use Rattle.boundary.specs.Exports.{replaced, renewedBy}
-use Rattle.boundary.specs.ExportLaws.{wrong-call, done-call, refused-call}
+use Rattle.boundary.specs.ExportLaws.{wrong-call, call-done, call-refused}
 use Rattle.boundary.specs.ReplacedLaws.{put-replaced}
 use Rattle.boundary.proofs.mezhtolik_load.Statement.{statement}
 use Rattle.boundary.proofs.mezhtolik_load.Tie as tie
@@ -22,13 +20,10 @@ returns c =
     wrong-call (s .args .area .now) (c .if1 .taken) (load (s .args .bytes .now))
 
 returns-2 : tie.Need-returns-2
-unfolding refusal
 returns-2 c =
     let e = c .before in
     let s = e .before .before in
-    let p = unpacked (s .args .area .now) in
-    refused-call (s .args .area .now) (e .if1 .left) (load (s .args .bytes .now)) {a = record { after = p; refusal = 1 }}
-    (sym (refused p (load (s .args .bytes .now)) 0 (rw (ne-eqb _ 80 (c .if2 .taken))))) (λ q. omega (arith, q))
+    call-refused (s .args .area .now) (e .if1 .left) (load (s .args .bytes .now)) (rw (ne-eqb _ 80 (c .if2 .taken))) (λ q. omega (arith, q))
 
 sub-write-block : tie.Need-sub-write-block
 sub-write-block c = search needs
@@ -59,7 +54,7 @@ halves : (bytes : List ℕ) → length bytes ≡ 80 → words bytes ≡ words (t
 halves bytes n = ap words (sym (take-append-drop 40 bytes)) ∙ words-append 20 (take 40 bytes) (drop 40 bytes) (simp length-take (omega arith))
 
 returns-3 : tie.Need-returns-3
-unfolding refusal renewedBy
+unfolding renewedBy
 returns-3 c =
     let w = c .before in
     let e = w .before .before in
@@ -68,8 +63,7 @@ returns-3 c =
     let bytes = s .args .bytes .now in
     let values = w .write-block .last .1 .0 in
     let long = w .write-block .kept .1 .0 ∙ write-block-requires (w .before) (s .κs) .1 in
-    done-call zs (e .before .if1 .left) (load bytes)
-    (sym (accepted (unpacked zs) (load bytes) (rw (eq-eqb (length bytes) 80 (e .if2 .left))))) refl
+    call-done zs (e .before .if1 .left) (load bytes) (rw (eq-eqb (length bytes) 80 (e .if2 .left)))
     (put-replaced zs values 21 40 long ∙ ap (λ (ys : List ℤ). replaced zs 21 ys) (w .write-block .ensures ∙ halves bytes (e .if2 .left)))
 
 pub mezhtolik-load-spec : {M : Type 1} → statement M

@@ -1,12 +1,19 @@
-use mathlib.Core.Path.{_≡_}
+use mathlib.Core.Path.{_≡_, sym, ap, _∙_}
 use mathlib.Core.Bool.{true}
+use mir.Syntax.{w32}
 use mir.Facts.{toZ-ofZ}
-use Rattle.rules.specs.Stores.{toolNumber}
-use Rattle.rules.specs.Calls.{Call, setWear, answered}
-use Rattle.boundary.specs.Area.{unpacked}
-use Rattle.boundary.specs.Exports.{renewedBy}
-use Rattle.boundary.specs.ExportLaws.{wrong-call, passes, done-call, refused-call}
 use borrow.Author.Needs.{needs}
+use Rattle.signed.specs.CodeLaws.{Cast}
+use Rattle.package.specs.declared.Wear.{Wear}
+use Rattle.rules.specs.Stores.{toolNumber}
+use Rattle.rules.specs.Refusals.{first}
+use Rattle.rules.specs.Settings.{wearRules}
+use Rattle.rules.specs.Calls.{Call, setWear}
+use Rattle.records.specs.SettingLaws.{tool-number, wear-casts}
+use Rattle.boundary.specs.Area.{toolsAt, wearNumbers, unpacked}
+use Rattle.boundary.specs.Exports.{replacedAt, renewedBy}
+use Rattle.boundary.specs.ExportLaws.{wrong-call, call-done, call-refused}
+use Rattle.boundary.specs.RecordLaws.{tools-long, wear-put}
 use Rattle.boundary.proofs.mezhtolik_set_wear.Statement.{statement}
 use Rattle.boundary.proofs.mezhtolik_set_wear.Tie as tie
 
@@ -16,62 +23,65 @@ call s = setWear (s .args .tool) (s .args .radius) (s .args .length)
 returns : tie.Need-returns
 returns c = let s = c .before in wrong-call (s .args .area .now) (c .if1 .taken) (call s)
 
-unpack-requires : tie.Need-unpack-requires
-unpack-requires c κs = search needs
+wear-refusal-requires : tie.Need-wear-refusal-requires
+wear-refusal-requires c κs = search needs
 
-set-wear-requires : tie.Need-set-wear-requires
-set-wear-requires c κs = search needs
+-- the number that the rules give
+given : (c : tie.After-wear-refusal) → let s = c .before .before in c .wear-refusal .result ≡ first (wearRules (s .args .tool) (s .args .radius) (s .args .length))
+given c = let s = c .before .before in rw (toZ-ofZ (s .fits .tool), toZ-ofZ (s .fits .radius), toZ-ofZ (s .fits .length)) at (c .wear-refusal .ensures)
 
--- what the core answers
-abbrev whole : tie.After-set-wear → tie.Else1
-whole c = c .before .before .before
-
-answer : (c : tie.After-set-wear) → let s = whole c .before in c .set-wear .result ≡ answered (unpacked (s .args .area .now)) (call s)
-answer c =
-    let s = whole c .before in
-    rw (c .before .unpack .ensures, toZ-ofZ (s .fits .tool), toZ-ofZ (s .fits .radius), toZ-ofZ (s .fits .length)) at (c .set-wear .ensures)
-
-number : (c : tie.Then2) → toolNumber (whole (c .before .before) .before .args .tool) ≡ true
-number c =
-    let w = whole (c .before .before) in
+returns-2 : tie.Need-returns-2
+returns-2 c =
+    let w = c .before .before in
     let s = w .before in
-    passes (s .args .area .now) (w .if1 .left) (call s) tt (answer (c .before .before)) (c .if2 .taken) .0
+    call-refused (s .args .area .now) (w .if1 .left) (call s) (given (c .before)) (c .if2 .taken)
 
-store-tool-requires : tie.Need-store-tool-requires
-store-tool-requires c κs =
-    let w = whole (c .before .before .before) in
-    (w .if1 .left, rw (toZ-ofZ (w .before .fits .tool)) (number (c .before)))
+-- where it is 0
+none : (c : tie.Else2) → let s = c .before .before .before in first (wearRules (s .args .tool) (s .args .radius) (s .args .length)) ≡ 0
+none c = sym (given (c .before)) ∙ c .if2 .left
+
+kept : (c : tie.Else2) → let s = c .before .before .before in Cast w32 (s .args .radius) × Cast w32 (s .args .length)
+kept c = let s = c .before .before .before in wear-casts (s .args .tool) (s .args .radius) (s .args .length) (none c) (s .fits .radius) (s .fits .length)
+
+cast-t9 : tie.Need-cast-t9
+cast-t9 c = search (kept c)
+
+cast-t10 : tie.Need-cast-t10
+cast-t10 c = search (kept c)
+
+number : (c : tie.Else2) → toolNumber (c .before .before .before .args .tool) ≡ true
+number c = let s = c .before .before .before in tool-number (s .args .tool) (s .args .radius) (s .args .length) (none c)
+
+put-wear-requires : tie.Need-put-wear-requires
+put-wear-requires c κs =
+    let e = c .before in
+    let w = e .before .before in
+    let s = w .before in
+    (w .if1 .left, rw (toZ-ofZ (s .fits .tool)) (number e))
 
 same-length : tie.Need-same-length
 same-length c = search needs
 
-returns-2 : tie.Need-returns-2
-unfolding renewedBy
-returns-2 c =
-    let t = c .before .before .before in
-    let a = t .before .before in
-    let s = whole a .before in
-    done-call (s .args .area .now) (whole a .if1 .left) (call s) (answer a) (t .if2 .taken)
-    (rw (toZ-ofZ (s .fits .tool)) at (c .before .store-tool .ensures))
-
-same-length-2 : tie.Need-same-length-2
-same-length-2 c = search needs
-
 returns-3 : tie.Need-returns-3
+unfolding renewedBy
 returns-3 c =
-    let a = c .before .before in
-    let s = whole a .before in
-    refused-call (s .args .area .now) (whole a .if1 .left) (call s) (answer a) (c .if2 .left)
+    let e = c .before .before .before in
+    let w = e .before .before in
+    let s = w .before in
+    let zs = s .args .area .now in
+    call-done zs (w .if1 .left) (call s) (none e)
+    (rw (toZ-ofZ (s .fits .tool), kept e .0 .value, kept e .1 .value) at (c .before .put-wear .ensures)
+    ∙ ap (λ (x : Wear). replacedAt zs toolsAt 2 (s .args .tool) (wearNumbers x)) (sym (wear-put (unpacked zs) (s .args .tool) _ (tools-long zs) (number e))))
 
 pub mezhtolik-set-wear-spec : {M : Type 1} → statement M
 mezhtolik-set-wear-spec =
     tie.close
     (tie.spec
     returns
-    unpack-requires
-    set-wear-requires
-    store-tool-requires
-    same-length
+    wear-refusal-requires
     returns-2
-    same-length-2
+    cast-t9
+    cast-t10
+    put-wear-requires
+    same-length
     returns-3)

@@ -11,29 +11,8 @@ slice-aggregate-read-probes c = simp length-take (omega arith)
 read-probes-requires : tie.Need-read-probes-requires
 read-probes-requires c κs = simp length-take (omega arith)
 
-sub-read-values : tie.Need-sub-read-values
-sub-read-values c = search needs
-
-part-read-values-start : tie.Need-part-read-values-start
-part-read-values-start c = search needs
-
-part-read-values-end : tie.Need-part-read-values-end
-part-read-values-end c = search needs
-
-read-values-requires : tie.Need-read-values-requires
-read-values-requires c κs = search needs
-
-sub-read-values-2 : tie.Need-sub-read-values-2
-sub-read-values-2 c = search needs
-
-part-read-values-start-2 : tie.Need-part-read-values-start-2
-part-read-values-start-2 c = search needs
-
-part-read-values-end-2 : tie.Need-part-read-values-end-2
-part-read-values-end-2 c = search needs
-
-read-values-requires-2 : tie.Need-read-values-requires-2
-read-values-requires-2 c κs = search needs
+read-memory-requires : tie.Need-read-memory-requires
+read-memory-requires c κs = search needs
 
 sub-read-tools : tie.Need-sub-read-tools
 sub-read-tools c = search needs
@@ -63,16 +42,8 @@ returns : tie.Need-returns
 unfolding unpacked
 returns c =
     let tools = c .before .before in
-    let means = tools .before .before in
-    let empirical = means .before .before in
-    let probes = empirical .before .before in
-    rw (
-      probes .read-probes .ensures,
-      empirical .read-values .ensures,
-      means .read-values2 .ensures,
-      tools .read-tools .ensures,
-      c .read-offsets .ensures,
-    )
+    let memory = tools .before .before in
+    rw (memory .before .read-probes .ensures, memory .read-memory .ensures, tools .read-tools .ensures, c .read-offsets .ensures)
 
 pub unpack-spec : {M : Type 1} → statement M
 unpack-spec =
@@ -80,14 +51,7 @@ unpack-spec =
     (tie.spec
     slice-aggregate-read-probes
     read-probes-requires
-    sub-read-values
-    part-read-values-start
-    part-read-values-end
-    read-values-requires
-    sub-read-values-2
-    part-read-values-start-2
-    part-read-values-end-2
-    read-values-requires-2
+    read-memory-requires
     sub-read-tools
     part-read-tools-start
     part-read-tools-end
