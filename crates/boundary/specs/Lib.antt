@@ -5,3 +5,4 @@ pub mod Exports
 pub mod ExportLaws
 pub mod ReplacedLaws
 pub mod RenewedLaws
+pub mod PartLaws

@@ -25,7 +25,7 @@ fn value_from(v: i32) -> i16
 }
 
 // The status of a number.
-fn status_from(v: i32) -> u8
+pub fn status_from(v: i32) -> u8
     ensures { λ r. ⌜ r ≡ statusFrom v ⌝ }
 {
     nearest_in(v as i64, 0, 255) as u8
@@ -45,8 +45,8 @@ fn read_values(part: &[i32]) -> [i16; 20]
     values
 }
 
-// The probe of 7 numbers. No call of a user.
-pub fn read_probe(part: &[i32]) -> Probe
+// The probe of 7 numbers.
+fn read_probe(part: &[i32]) -> Probe
     requires { ⌜ length (now part) ≡ 7 ⌝ }
     ensures { λ r. ⌜ r ≡ probeFrom (now (part .entry)) ⌝ }
 {

@@ -34,8 +34,8 @@ fn copy_numbers(numbers: &[i32], part: &mut [i32])
     }
 }
 
-// Writes a probe's 7 numbers. No call of a user.
-pub fn write_probe(x: Probe, part: &mut [i32])
+// Writes a probe's 7 numbers.
+fn write_probe(x: Probe, part: &mut [i32])
     requires { ⌜ length (now part) ≡ 7 ⌝ }
     ensures { λ _. ⌜ now (part .exit) ≡ probeNumbers x ⌝ }
 {
