@@ -188,11 +188,11 @@ fn calibrate_part(part: &mut [i32], a: Calibration) -> u32
     requires { ⌜ first (calibrationArguments a) ≡ 0 ⌝ }
     ensures { λ r. ⌜ left r (now (part .exit)) ≡ partCalibrated (now (part .entry)) a ⌝ }
 {
-    let at = place_of(a.axis, a.direction) - 1;
-    let c = calibrate_direction(part[at], status_from(part[6]), a);
+    let place = place_of(a.axis, a.direction);
+    let c = calibrate_direction(part[place - 1], status_from(part[6]), place, a);
     if c.refusal == DONE {
         let trigger = c.trigger;
-        part[at] = trigger;
+        part[place - 1] = trigger;
         part[6] = c.status as i32;
     }
     c.refusal

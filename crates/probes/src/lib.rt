@@ -31,7 +31,7 @@ ghost use Rattle.probes.specs.Calibrated.{triggerRead, calibratedWith};
 ghost use Rattle.probes.specs.StatusAnswer.{statusAnswer};
 
 // The trigger place of each axis and direction: axis 1 positive, negative, axis 2, axis 3.
-const PLACES: [usize; 6] = [2, 1, 4, 3, 6, 5];
+const PLACES: [u8; 6] = [2, 1, 4, 3, 6, 5];
 
 // The trigger place of an axis 1..3 and a direction 0 or 1. No call of a user.
 pub fn place_of(axis: i64, direction: i64) -> usize
@@ -40,7 +40,7 @@ pub fn place_of(axis: i64, direction: i64) -> usize
 {
     let i = index(axis);
     let d = direction as usize;
-    PLACES[2 * i + d]
+    PLACES[2 * i + d] as usize
 }
 
 // A trigger as it is read, the nearest within the limits.
@@ -136,9 +136,10 @@ pub struct Calibrated {
     pub refusal: u32,
 }
 
-// Calibrates a direction by arguments that passed. No call of a user.
-pub fn calibrate_direction(trigger: i32, status: u8, a: Calibration) -> Calibrated
+// Calibrates the direction of a place by arguments that passed. No call of a user.
+pub fn calibrate_direction(trigger: i32, status: u8, place: usize, a: Calibration) -> Calibrated
     requires { ⌜ first (calibrationArguments a) ≡ 0 ⌝ }
+    requires { ⌜ place ≡ placeOf (a .axis) (a .direction) ⌝ }
     ensures { λ r. ⌜ r ≡ calibratedWith trigger status a ⌝ }
 {
     let t = new_trigger(a);
@@ -157,7 +158,7 @@ pub fn calibrate_direction(trigger: i32, status: u8, a: Calibration) -> Calibrat
             refusal: LEAVES_RANGE,
         };
     }
-    let marked = mark_place(status, place_of(a.axis, a.direction));
+    let marked = mark_place(status, place);
     if a.tzl < d {
         return Calibrated {
             trigger: t as i32,
@@ -183,7 +184,7 @@ pub fn calibrate(p: Package, a: Calibration) -> Answer
     let i = index(a.probe);
     let place = place_of(a.axis, a.direction);
     let mut x = p.probes[i];
-    let c = calibrate_direction(x.triggers[place - 1], x.status, a);
+    let c = calibrate_direction(x.triggers[place - 1], x.status, place, a);
     if c.refusal != DONE {
         return Answer {
             after: p,

@@ -1,7 +1,7 @@
 use mathlib.Core.Path.{_≡_, ap, ap₂, _∙_}
 use Prim.Native.Nat.{ℕ, suc, _-_, _≤_, _<_, _^_}
 use native.Mathlib.Omega.{arith}
-use lib.IntN.{ℤ, pos}
+use lib.IntN.{ℤ}
 use lib.ListN.{set, length-set}
 use mir.Syntax.{w32}
 use mir.Facts.{toZ-pos}
@@ -38,10 +38,10 @@ index c = omega (arith, place-is c, place c)
 low : (c : tie.After-place-of) → c .place-of .result - 1 < 6
 low c = omega (arith, place c)
 
-sub-at : tie.Need-sub-at
-sub-at c = omega (arith, place c)
-
 -- ---- the two numbers that are read
+sub-calibrate-direction : tie.Need-sub-calibrate-direction
+sub-calibrate-direction c = omega (arith, place c)
+
 mul-calibrate-direction : tie.Need-mul-calibrate-direction
 mul-calibrate-direction c = omega (arith, low c)
 
@@ -55,7 +55,7 @@ status-from-requires : tie.Need-status-from-requires
 status-from-requires c κs = search needs
 
 calibrate-direction-requires : tie.Need-calibrate-direction-requires
-calibrate-direction-requires c κs = search needs
+calibrate-direction-requires c κs = let p = c .before .before .before in (start p .pre .1, place-is p)
 
 abbrev placed : tie.After-calibrate-direction → tie.After-place-of
 placed c = c .before .before .before .before
@@ -71,6 +71,9 @@ found c =
     ∙ part-found (s .args .part .now) a (placed c .place-of .result - 1) (s .pre .0) (low (placed c)) (index (placed c))
 
 -- ---- the two numbers that are written
+sub-trigger : tie.Need-sub-trigger
+sub-trigger c = omega (arith, place (placed (c .before .before .before)))
+
 mul-trigger : tie.Need-mul-trigger
 mul-trigger c = omega (arith, low (placed (c .before .before .before)))
 
@@ -118,12 +121,13 @@ calibrate-part-spec =
     tie.close
     (tie.spec
     place-of-requires
-    sub-at
+    sub-calibrate-direction
     mul-calibrate-direction
     slice-copy-out-calibrate-direction
     slice-copy-out-status-from
     status-from-requires
     calibrate-direction-requires
+    sub-trigger
     mul-trigger
     slice-set-from-trigger
     cast-part

@@ -91,7 +91,7 @@ element-copy-out-calibrate-direction : tie.Need-element-copy-out-calibrate-direc
 element-copy-out-calibrate-direction c = omega (arith, place (c .before))
 
 calibrate-direction-requires : tie.Need-calibrate-direction-requires
-calibrate-direction-requires c κs = passed (allowed (c .before .before))
+calibrate-direction-requires c κs = let p = c .before .before in (passed (allowed p), place-is p)
 
 -- ---- what the calibration leaves of the direction
 abbrev placed : tie.After-calibrate-direction → tie.After-place-of

@@ -17,14 +17,14 @@ use Rattle.rules.specs.Probes.{placeOf, mark}
 use Rattle.rules.specs.Calibration.{newTrigger}
 use Rattle.probes.specs.declared.Calibrated.{Calibrated}
 use Rattle.probes.specs.Calibrated.{triggerRead, changeSize, directionRefusal}
-use Rattle.probes.specs.CalibratedLaws.{with-refused, with-done, numbers-passed, positions-passed, place-passed}
+use Rattle.probes.specs.CalibratedLaws.{with-refused, with-done, positions-passed, place-passed}
 use Rattle.probes.proofs.Laws.{trigger-size}
 use Rattle.probes.proofs.calibrate_direction.Statement.{statement}
 use Rattle.probes.proofs.calibrate_direction.Tie as tie
 
 -- ---- t, the stored trigger, and |d|
 new-trigger-requires : tie.Need-new-trigger-requires
-new-trigger-requires c κs = positions-passed (c .args .a) (c .pre)
+new-trigger-requires c κs = positions-passed (c .args .a) (c .pre .0)
 
 read-trigger-requires : tie.Need-read-trigger-requires
 read-trigger-requires c κs = search needs
@@ -39,7 +39,7 @@ stored : (c : tie.After-read-trigger) → c .read-trigger .result ≡ triggerRea
 stored c = c .read-trigger .ensures ∙ search needs
 
 new-size : (c : tie.After-read-trigger) → natAbs (c .before .new-trigger .result) ≤ 20000000
-new-size c = rw (new c) (trigger-size (start c .args .a) (positions-passed (start c .args .a) (start c .pre)))
+new-size c = rw (new c) (trigger-size (start c .args .a) (positions-passed (start c .args .a) (start c .pre .0)))
 
 stored-size : (c : tie.After-read-trigger) → natAbs (c .read-trigger .result) ≤ 100000
 stored-size c =
@@ -110,22 +110,8 @@ returns-2 c =
 abbrev given : tie.Else2 → tie.Start
 given c = start (known (c .before .before) .before)
 
-place-of-requires : tie.Need-place-of-requires
-place-of-requires c κs =
-    let s = given (c .before .before) in
-    let n = numbers-passed (s .args .a) (s .pre) in
-    search needs
-
-abbrev allowed : tie.After-place-of → tie.Else2
-allowed c = c .before .before .before
-
-place-is : (c : tie.After-place-of) → let a = given (allowed c) .args .a in c .place-of .result ≡ placeOf (a .axis) (a .direction)
-place-is c = c .place-of .ensures ∙ search needs
-
 mark-place-requires : tie.Need-mark-place-requires
-mark-place-requires c κs =
-    let s = given (allowed c) in
-    rw (place-is c) (place-passed (s .args .a) (s .pre))
+mark-place-requires c κs = let s = given c in rw (s .pre .1) (place-passed (s .args .a) (s .pre .0))
 
 in-range : (c : tie.Else2) → triggerRange (newTrigger (given c .args .a)) ≡ true
 in-range c = passed (tested (c .before)) (c .if2 .left)
@@ -134,9 +120,9 @@ none : (c : tie.Else2) → directionRefusal (given c .args .trigger) (given c .a
 none c = let e = c .before .before in rw (near (e .before) false (e .if1 .left), in-range c)
 
 status-is : (c : tie.After-mark-place) →
-    let s = given (allowed (c .before)) in
+    let s = given (c .before) in
     c .mark-place .result ≡ mark (s .args .status % 64) (placeOf (s .args .a .axis) (s .args .a .direction))
-status-is c = c .mark-place .ensures ∙ ap (mark (given (allowed (c .before)) .args .status % 64)) (place-is (c .before))
+status-is c = let s = given (c .before) in c .mark-place .ensures ∙ ap (mark (s .args .status % 64)) (s .pre .1)
 
 -- t as it is stored
 cast : (c : tie.Else2) → Cast w32 (known (c .before .before) .before .before .new-trigger .result)
@@ -145,16 +131,16 @@ cast c =
     casts w32 (minus 100000) (pos 100000) (record { sfits = t .before .new-trigger .ok }) tt tt (ap triggerRange (new t) ∙ in-range c)
 
 cast-t12 : tie.Need-cast-t12
-cast-t12 c = cast (allowed (c .before .before .before .before)) .fits
+cast-t12 c = cast (c .before .before .before .before) .fits
 
 -- the code's test of TZL < |d|
-more : (c : tie.After-struct-told4) (b : Bool) →
-    let m = known (allowed (c .before .before .before) .before .before) in
+more : (c : tie.After-struct-told2) (b : Bool) →
+    let m = known (c .before .before .before .before .before) in
     let s = start (m .before) in
     ltZ (toZ w64 (ofZ w64 (s .args .a .tzl))) (toZ w64 (ofZ w64 (m .magnitude .result))) ≡ b → ltZ (s .args .a .tzl) (changeSize (s .args .trigger) (s .args .a)) ≡ b
 more c b e =
-    let m = known (allowed (c .before .before .before) .before .before) in
-    rw (read (start (m .before) .args .a .tzl) (c .struct-told4 .given .1 .1 .1 .1 .1 .0 .1), far-read m) at e
+    let m = known (c .before .before .before .before .before) in
+    rw (read (start (m .before) .args .a .tzl) (c .struct-told2 .given .1 .1 .1 .1 .1 .0 .1), far-read m) at e
 
 abbrev left-with : ℤ → ℕ → Calibrated
 left-with trigger status = record { trigger = trigger; status = status; refusal = 0 }
@@ -162,7 +148,7 @@ left-with trigger status = record { trigger = trigger; status = status; refusal 
 returns-3 : tie.Need-returns-3
 returns-3 c =
     let m = c .before .before .before in
-    let e = allowed (m .before) in
+    let e = m .before in
     let s = given e in
     let t = cast e .value ∙ new (known (e .before .before) .before) in
     ap₂ left-with t (status-is m) ∙ sym (with-done (s .args .trigger) (s .args .status) (s .args .a) true (none e) (more (c .before) true (c .if3 .taken)))
@@ -170,7 +156,7 @@ returns-3 c =
 returns-4 : tie.Need-returns-4
 returns-4 c =
     let m = c .before .before .before in
-    let e = allowed (m .before) in
+    let e = m .before in
     let s = given e in
     ap₂ left-with (toZ-ofZ (s .fits .trigger)) (status-is m) ∙ sym (with-done (s .args .trigger) (s .args .status) (s .args .a) false (none e) (more (c .before) false (c .if3 .left)))
 
@@ -186,7 +172,6 @@ calibrate-direction-spec =
     sub-in-range
     in-range-requires
     returns-2
-    place-of-requires
     mark-place-requires
     cast-t12
     returns-3
