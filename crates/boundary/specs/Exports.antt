@@ -16,13 +16,14 @@ use Rattle.rules.specs.Status.{statusRead}
 use Rattle.rules.specs.Stores.{pick, probeOf, wearOf, offsetOf}
 use Rattle.rules.specs.Calls.{Call, setEmpirical, setWear, setOffset, calibrate, readStatus, measureTool, measureZero, load, save, refusal, done}
 use Rattle.rules.specs.Measuring.{toolMeasured, toolArray, zeroMeasured, zeroArray}
+use Rattle.probes.specs.Calibrated.{directionCalibrated, withDirection}
 use Rattle.job_text.specs.Letters.{toolOf, zeroOf}
 use Rattle.jobs.specs.Jobs.{jobRan, jobOutput}
 use Rattle.jobs.specs.declared.Ran.{Ran}
 use Rattle.boundary.specs.declared.Decision.{Decision}
 use Rattle.boundary.specs.declared.JobReply.{JobReply}
 use Rattle.boundary.specs.declared.StatusBits.{StatusBits}
-use Rattle.boundary.specs.Area.{probesAt, empiricalAt, meansAt, toolsAt, offsetsAt, areaLength, probeNumbers, wearNumbers, offsetNumbers, packed, unpacked}
+use Rattle.boundary.specs.Area.{probesAt, empiricalAt, meansAt, toolsAt, offsetsAt, areaLength, probeFrom, probeNumbers, wearNumbers, offsetNumbers, packed, unpacked}
 
 abbrev pub wholeArea : List ℤ → Bool
 wholeArea area = eqb (length area) areaLength
@@ -90,6 +91,13 @@ freshCalled area = cond (wholeArea area) (left 0 (packed freshPackage)) (left 10
 abbrev pub calibration : (probe axis direction setpoint raw tzl tsa : ℤ) → Calibration
 calibration probe axis direction setpoint raw tzl tsa =
     record { probe = probe; axis = axis; direction = direction; setpoint = setpoint; raw = raw; tzl = tzl; tsa = tsa }
+
+-- the 7 numbers of a probe after a calibration of one direction whose arguments passed
+unfoldable pub partCalibrated : List ℤ → Calibration → Left
+partCalibrated part a =
+    let x = probeFrom part in
+    let c = directionCalibrated x a in
+    left (c .refusal) (stored (c .refusal) (probeNumbers (withDirection x a c)) part)
 
 -- ---- status and save, which leave the area
 abbrev pub statusBits : Status → StatusBits

@@ -8,3 +8,4 @@ pub mod RecordLaws
 pub mod RenewedLaws
 pub mod Measurements
 pub mod MeasurementLaws
+pub mod PartLaws

@@ -10,17 +10,13 @@ use crate::measure::refuse;
 use crate::measure::tool_records;
 use crate::measure::zero_records;
 use crate::read::read_memory;
-use crate::read::read_probe;
+use crate::read::status_from;
 use crate::read::unpack;
 use crate::write::pack;
 use crate::write::put_offset;
 use crate::write::put_value;
 use crate::write::put_wear;
-use crate::write::store_offset;
-use crate::write::store_tool;
-use crate::write::store_value;
 use crate::write::write_block;
-use crate::write::write_probe;
 use job_text::arguments::tool_of;
 use job_text::arguments::zero_of;
 use jobs::run_job;
@@ -34,13 +30,15 @@ use package::PROBES;
 use package::Package;
 use package::Wear;
 use package::fresh;
-use probes::calibrate_probe;
-use probes::probe_status;
-use results::has_room;
+use probes::calibrate_direction;
+use probes::calibration_refusal;
+use probes::place_of;
+use probes::status_answer;
 use records::empirical_refusal;
 use records::offset_refusal;
 use records::save_memory;
 use records::wear_refusal;
+use results::has_room;
 use signed::in_range;
 use signed::index;
 use tool_offset::tool_left;
@@ -49,9 +47,11 @@ use zero_offset::zero_left;
 use zero_offset::zero_refusal;
 ghost use mathlib.Core.Path.{_≡_};
 ghost use lib.ListN.{length};
+ghost use Rattle.rules.specs.Refusals.{first};
+ghost use Rattle.rules.specs.Calibration.{calibrationArguments};
 ghost use Rattle.rules.specs.Calls.{setEmpirical, setWear, setOffset, calibrate, load};
 ghost use Rattle.boundary.specs.Area.{packed};
-ghost use Rattle.boundary.specs.Exports.{stored, left, called, freshCalled, calibration, statusCalled, savedAs, saveCalled, reply, toolCalled, zeroCalled, jobLeft, jobCalled};
+ghost use Rattle.boundary.specs.Exports.{stored, left, called, freshCalled, calibration, partCalibrated, statusCalled, savedAs, saveCalled, reply, toolCalled, zeroCalled, jobLeft, jobCalled};
 
 // Refusals of this crate alone: an area that has not 137 numbers; arguments that are not as many as a measurement's.
 pub const WRONG_AREA: u32 = 100;
@@ -180,6 +180,22 @@ pub extern "C" fn mezhtolik_set_offset(
     DONE
 }
 
+// Calibrates one direction on the 7 numbers of its probe, by arguments that passed.
+fn calibrate_part(part: &mut [i32], a: Calibration) -> u32
+    requires { ⌜ length (now part) ≡ 7 ⌝ }
+    requires { ⌜ first (calibrationArguments a) ≡ 0 ⌝ }
+    ensures { λ r. ⌜ left r (now (part .exit)) ≡ partCalibrated (now (part .entry)) a ⌝ }
+{
+    let place = place_of(a.axis, a.direction);
+    let c = calibrate_direction(part[place - 1], status_from(part[6]), place, a);
+    if c.refusal == DONE {
+        let trigger = c.trigger;
+        part[place - 1] = trigger;
+        part[6] = c.status as i32;
+    }
+    c.refusal
+}
+
 // Calibrates one direction of a probe.
 #[no_mangle]
 pub extern "C" fn mezhtolik_calibrate(
@@ -197,9 +213,6 @@ pub extern "C" fn mezhtolik_calibrate(
     if area.len() != AREA {
         return WRONG_AREA;
     }
-    if !in_range(probe, 1, PROBES) {
-        return NO_SUCH_NUMBER;
-    }
     let a = Calibration {
         probe,
         axis,
@@ -209,12 +222,12 @@ pub extern "C" fn mezhtolik_calibrate(
         tzl,
         tsa,
     };
-    let at = 7 * index(probe);
-    let c = calibrate_probe(read_probe(&area[at..at + 7]), a);
-    if c.refusal == DONE {
-        write_probe(c.after, &mut area[at..at + 7]);
+    let refusal = calibration_refusal(a);
+    if refusal != DONE {
+        return refusal;
     }
-    c.refusal
+    let at = 7 * index(probe);
+    calibrate_part(&mut area[at..at + 7], a)
 }
 
 // The bits of a probe's status and the number of directions calibrated.
@@ -229,7 +242,14 @@ pub extern "C" fn mezhtolik_probe_status(area: &[i32], probe: i64) -> StatusBits
             count: 0,
         };
     }
-    let s = probe_status(unpack(area), probe);
+    if !in_range(probe, 1, PROBES) {
+        return StatusBits {
+            refusal: NO_SUCH_NUMBER,
+            bits: 0,
+            count: 0,
+        };
+    }
+    let s = status_answer(status_from(area[7 * index(probe) + 6]));
     StatusBits {
         refusal: s.refusal,
         bits: s.bits,

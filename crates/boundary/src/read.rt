@@ -31,7 +31,7 @@ fn value_from(v: i32) -> i16
 }
 
 // The status of a number.
-fn status_from(v: i32) -> u8
+pub fn status_from(v: i32) -> u8
     ensures { λ r. ⌜ r ≡ statusFrom v ⌝ }
 {
     nearest_in(v as i64, 0, 255) as u8
@@ -73,8 +73,8 @@ pub fn value_at(area: &[i32], at: usize, n: i64) -> i16
     value_from(area[at + index(n)])
 }
 
-// The probe of 7 numbers. No call of a user.
-pub fn read_probe(part: &[i32]) -> Probe
+// The probe of 7 numbers.
+fn read_probe(part: &[i32]) -> Probe
     requires { ⌜ length (now part) ≡ 7 ⌝ }
     ensures { λ r. ⌜ r ≡ probeFrom (now (part .entry)) ⌝ }
 {

@@ -19,7 +19,7 @@ ghost use Rattle.rules.specs.Block.{words};
 ghost use Rattle.rules.specs.Stores.{toolNumber, offsetNumber};
 ghost use Rattle.rules.specs.Tool.{namedOrNone};
 ghost use Rattle.boundary.specs.Area.{toolsAt, offsetsAt, probeNumbers, wearNumbers, offsetNumbers, packed};
-ghost use Rattle.boundary.specs.Exports.{replacedAt, valueRenewed, toolRenewed, offsetRenewed};
+ghost use Rattle.boundary.specs.Exports.{replacedAt};
 
 // Copies numbers to a part as long as they are.
 fn copy_numbers(numbers: &[i32], part: &mut [i32])
@@ -34,8 +34,8 @@ fn copy_numbers(numbers: &[i32], part: &mut [i32])
     }
 }
 
-// Writes a probe's 7 numbers. No call of a user.
-pub fn write_probe(x: Probe, part: &mut [i32])
+// Writes a probe's 7 numbers.
+fn write_probe(x: Probe, part: &mut [i32])
     requires { ⌜ length (now part) ≡ 7 ⌝ }
     ensures { λ _. ⌜ now (part .exit) ≡ probeNumbers x ⌝ }
 {
@@ -165,43 +165,6 @@ pub fn put_offset(x: Offset, offset: i64, area: &mut [i32])
     ensures { λ _. ⌜ now (area .exit) ≡ replacedAt (now (area .entry)) offsetsAt 3 offset (offsetNumbers x) ⌝ }
 {
     let at = OFFSETS + 3 * index(offset);
-    write_offset(x, &mut area[at..at + 3]);
-}
-
-// Writes one of 20 values to the section that starts at a place; number 0 names none. No call of a user.
-pub fn store_value(values: [i16; 20], n: i64, area: &mut [i32], at: usize)
-    requires { ⌜ at + 20 ≤ length (now area) ⌝ }
-    requires { ⌜ namedOrNone n ≡ true ⌝ }
-    ensures { λ _. ⌜ now (area .exit) ≡ valueRenewed (now (area .entry)) at values n ⌝ }
-{
-    if n != 0 {
-        let i = index(n);
-        let v = values[i];
-        area[at + i] = v as i32;
-    }
-}
-
-// Writes one tool's wears to an area. No call of a user.
-pub fn store_tool(p: Package, tool: i64, area: &mut [i32])
-    requires { ⌜ length (now area) ≡ 137 ⌝ }
-    requires { ⌜ toolNumber tool ≡ true ⌝ }
-    ensures { λ _. ⌜ now (area .exit) ≡ toolRenewed (now (area .entry)) p tool ⌝ }
-{
-    let i = index(tool);
-    let at = TOOLS + 2 * i;
-    let x = p.tools[i];
-    write_wear(x, &mut area[at..at + 2]);
-}
-
-// Writes one zero offset to an area. No call of a user.
-pub fn store_offset(p: Package, offset: i64, area: &mut [i32])
-    requires { ⌜ length (now area) ≡ 137 ⌝ }
-    requires { ⌜ offsetNumber offset ≡ true ⌝ }
-    ensures { λ _. ⌜ now (area .exit) ≡ offsetRenewed (now (area .entry)) p offset ⌝ }
-{
-    let i = index(offset);
-    let at = OFFSETS + 3 * i;
-    let x = p.offsets[i];
     write_offset(x, &mut area[at..at + 3]);
 }
 

@@ -21,17 +21,17 @@ use signed::nearest_in;
 ghost use mathlib.Core.Path.{_≡_};
 ghost use mathlib.Core.Bool.{true};
 ghost use Prim.Native.Nat.{_≤_, _%_};
-ghost use Rattle.signed.specs.Ranges.{size};
-ghost use Rattle.rules.specs.Stores.{axisNumber, directionNumber, triggerRange};
+ghost use Rattle.rules.specs.Stores.{axisNumber, directionNumber};
 ghost use Rattle.rules.specs.Refusals.{first};
 ghost use Rattle.rules.specs.Probes.{sign, placeOf, triggerOf, calibratedIn, mark};
-ghost use Rattle.rules.specs.Calibration.{newTrigger, change, calibrationArguments, calibrationNumbers, calibrationPositions, calibrationLimits, calibratedProbe};
+ghost use Rattle.rules.specs.Calibration.{newTrigger, calibrationArguments, calibrationNumbers, calibrationPositions, calibrationLimits};
 ghost use Rattle.rules.specs.Status.{statusRead};
 ghost use Rattle.rules.specs.Calls.{answered, calibrate};
-ghost use Rattle.probes.specs.Calibrated.{calibratedWith};
+ghost use Rattle.probes.specs.Calibrated.{triggerRead, calibratedWith};
+ghost use Rattle.probes.specs.StatusAnswer.{statusAnswer};
 
 // The trigger place of each axis and direction: axis 1 positive, negative, axis 2, axis 3.
-const PLACES: [usize; 6] = [2, 1, 4, 3, 6, 5];
+const PLACES: [u8; 6] = [2, 1, 4, 3, 6, 5];
 
 // The trigger place of an axis 1..3 and a direction 0 or 1. No call of a user.
 pub fn place_of(axis: i64, direction: i64) -> usize
@@ -40,7 +40,14 @@ pub fn place_of(axis: i64, direction: i64) -> usize
 {
     let i = index(axis);
     let d = direction as usize;
-    PLACES[2 * i + d]
+    PLACES[2 * i + d] as usize
+}
+
+// A trigger as it is read, the nearest within the limits.
+fn read_trigger(trigger: i32) -> i64
+    ensures { λ r. ⌜ r ≡ triggerRead trigger ⌝ }
+{
+    nearest_in(trigger as i64, -TRIGGER_LIMIT, TRIGGER_LIMIT)
 }
 
 // A probe's trigger on an axis 1..3 in a direction 0 or 1. No call of a user.
@@ -49,8 +56,7 @@ pub fn trigger_of(x: Probe, axis: i64, direction: i64) -> i64
     ensures { λ r. ⌜ r ≡ triggerOf x axis direction ⌝ }
 {
     let place = place_of(axis, direction);
-    let t = x.triggers[place - 1];
-    nearest_in(t as i64, -TRIGGER_LIMIT, TRIGGER_LIMIT)
+    read_trigger(x.triggers[place - 1])
 }
 
 // Whether a probe is calibrated on an axis 1..3 in a direction 0 or 1. No call of a user.
@@ -100,7 +106,7 @@ fn limits_ok(a: Calibration) -> bool
 }
 
 // The first refusal that the arguments alone give.
-fn arguments_refusal(a: Calibration) -> u32
+pub fn calibration_refusal(a: Calibration) -> u32
     ensures { λ r. ⌜ r ≡ first (calibrationArguments a) ⌝ }
 {
     if !numbers_ok(a) {
@@ -123,54 +129,46 @@ fn new_trigger(a: Calibration) -> i64
     sign_of(a.direction) * (a.setpoint - a.raw)
 }
 
-// The probe after a calibration with the new trigger t and the size |d| of its change.
-fn calibrated_probe(x: Probe, a: Calibration, t: i64, d: i64) -> Probe
-    requires { ⌜ calibrationNumbers a ≡ true ⌝ }
-    requires { ⌜ (t ≡ newTrigger a) × (triggerRange t ≡ true) ⌝ }
-    requires { ⌜ d ≡ size (change x a) ⌝ }
-    ensures { λ r. ⌜ r ≡ calibratedProbe x a ⌝ }
-{
-    let place = place_of(a.axis, a.direction);
-    let status = mark_place(x.status, place);
-    let mut triggers = x.triggers;
-    if a.tzl < d {
-        triggers[place - 1] = t as i32;
-        return Probe { triggers, status };
-    }
-    Probe { triggers, status }
-}
-
-// A probe after a calibration, and the refusal number of that.
+// What a calibration leaves of a direction: its trigger and the status of its probe, as they were where it is refused.
 pub struct Calibrated {
-    pub after: Probe,
+    pub trigger: i32,
+    pub status: u8,
     pub refusal: u32,
 }
 
-// Calibrates a probe in one direction; its number is only tested.
-pub fn calibrate_probe(x: Probe, a: Calibration) -> Calibrated
-    ensures { λ r. ⌜ r ≡ calibratedWith x a ⌝ }
+// Calibrates the direction of a place by arguments that passed. No call of a user.
+pub fn calibrate_direction(trigger: i32, status: u8, place: usize, a: Calibration) -> Calibrated
+    requires { ⌜ first (calibrationArguments a) ≡ 0 ⌝ }
+    requires { ⌜ place ≡ placeOf (a .axis) (a .direction) ⌝ }
+    ensures { λ r. ⌜ r ≡ calibratedWith trigger status a ⌝ }
 {
-    let refusal = arguments_refusal(a);
-    if refusal != DONE {
-        return Calibrated { after: x, refusal };
-    }
     let t = new_trigger(a);
-    let d = magnitude(t - trigger_of(x, a.axis, a.direction));
+    let d = magnitude(t - read_trigger(trigger));
     if a.tsa < d {
         return Calibrated {
-            after: x,
+            trigger,
+            status,
             refusal: BEYOND_TSA,
         };
     }
     if !in_range(t, -TRIGGER_LIMIT, TRIGGER_LIMIT) {
         return Calibrated {
-            after: x,
+            trigger,
+            status,
             refusal: LEAVES_RANGE,
         };
     }
-    let after = calibrated_probe(x, a, t, d);
+    let marked = mark_place(status, place);
+    if a.tzl < d {
+        return Calibrated {
+            trigger: t as i32,
+            status: marked,
+            refusal: DONE,
+        };
+    }
     Calibrated {
-        after,
+        trigger,
+        status: marked,
         refusal: DONE,
     }
 }
@@ -179,26 +177,40 @@ pub fn calibrate_probe(x: Probe, a: Calibration) -> Calibrated
 pub fn calibrate(p: Package, a: Calibration) -> Answer
     ensures { λ r. ⌜ r ≡ answered p (calibrate a) ⌝ }
 {
-    if !in_range(a.probe, 1, PROBES) {
-        return Answer {
-            after: p,
-            refusal: NO_SUCH_NUMBER,
-        };
+    let refusal = calibration_refusal(a);
+    if refusal != DONE {
+        return Answer { after: p, refusal };
     }
     let i = index(a.probe);
-    let c = calibrate_probe(p.probes[i], a);
+    let place = place_of(a.axis, a.direction);
+    let mut x = p.probes[i];
+    let c = calibrate_direction(x.triggers[place - 1], x.status, place, a);
     if c.refusal != DONE {
         return Answer {
             after: p,
             refusal: c.refusal,
         };
     }
+    let trigger = c.trigger;
+    x.triggers[place - 1] = trigger;
+    x.status = c.status;
     let mut after = p;
-    let x = c.after;
     after.probes[i] = x;
     Answer {
         after,
         refusal: DONE,
+    }
+}
+
+// The bits of a status and the number of directions that it has calibrated.
+pub fn status_answer(status: u8) -> Status
+    ensures { λ r. ⌜ r ≡ statusAnswer status ⌝ }
+{
+    let bits = (status % 64) as u32;
+    Status {
+        refusal: DONE,
+        bits,
+        count: u32::count_ones(bits),
     }
 }
 
@@ -215,10 +227,5 @@ pub fn probe_status(p: Package, probe: i64) -> Status
     }
     let i = index(probe);
     let x = p.probes[i];
-    let bits = (x.status % 64) as u32;
-    Status {
-        refusal: DONE,
-        bits,
-        count: u32::count_ones(bits),
-    }
+    status_answer(x.status)
 }

@@ -1,112 +1,176 @@
 use mathlib.Core.Path.{_≡_, sym, ap, ap₂, _∙_}
-use mathlib.Core.Bool.{true}
-use Prim.Native.Nat.{suc, _-_, _<_}
+use Prim.Native.Nat.{ℕ, suc, _-_, _≤_, _<_}
 use native.Mathlib.Omega.{arith}
 use lib.IntN.{ℤ, pos}
-use mir.Syntax.{w64}
-use mir.Val.{ofZ, toZ}
+use mir.Syntax.{w32, w64}
+use mir.Val.{SFits}
 use borrow.Author.Needs.{needs}
-use Rattle.signed.specs.RangeLaws.{within-is, below-top}
-use Rattle.signed.specs.CodeLaws.{read, failed, passed}
+use Rattle.signed.specs.CodeLaws.{read, read-as, from-one, in-store}
 use Rattle.package.specs.declared.Package.{Package}
 use Rattle.package.specs.declared.Probe.{Probe}
+use Rattle.package.specs.declared.Calibration.{Calibration}
 use Rattle.package.specs.declared.Answer.{Answer}
-use Rattle.rules.specs.Stores.{probeNumber, probeOf, withProbe}
+use Rattle.rules.specs.Refusals.{first}
+use Rattle.rules.specs.Stores.{pick, put, probeOf, withProbe}
+use Rattle.rules.specs.Probes.{placeOf}
 use Rattle.rules.specs.Calibration.{calibrationArguments}
-use Rattle.rules.specs.Calls.{refusal, calibrate}
-use Rattle.rules.specs.CallLaws.{refused}
-use Rattle.probes.specs.Calibrated.{calibratedWith}
-use Rattle.probes.specs.CalibratedLaws.{package-refused, package-done}
+use Rattle.probes.specs.Calibrated.{calibratedWith, directionCalibrated}
+use Rattle.probes.specs.CalibratedLaws.{numbers-passed, place-passed, arguments-refused, direction-refused, direction-done}
 use Rattle.probes.specs.declared.Calibrated.{Calibrated}
 use Rattle.probes.proofs.calibrate.Statement.{statement}
 use Rattle.probes.proofs.calibrate.Tie as tie
 
--- ---- the probe's number
-number : (c : tie.After-in-range) → c .in-range .result ≡ probeNumber (c .before .before .args .a .probe)
-number c = rw (read (c .before .before .args .a .probe) (c .before .struct-told .given .0 .1)) at (c .in-range .ensures)
-
-in-range-requires : tie.Need-in-range-requires
-in-range-requires c κs = search needs
+-- ---- the arguments
+calibration-refusal-requires : tie.Need-calibration-refusal-requires
+calibration-refusal-requires c κs = search needs
 
 returns : tie.Need-returns
-unfolding refusal calibrationArguments
 returns c =
-    let s = c .before .before .before in
-    sym (refused (s .args .t1) (calibrate (s .args .a)) 1 (rw (failed (number (c .before)) (c .if1 .taken))))
+    let s = c .before .before in
+    let r = c .before .calibration-refusal .result in
+    let some : r ≡ suc (r - 1) = omega (arith, c .if1 .taken) in
+    rw some (sym (arguments-refused (s .args .t1) (s .args .a) (r - 1) (sym (c .before .calibration-refusal .ensures) ∙ some)))
 
-allowed : (c : tie.Else1) → probeNumber (c .before .before .before .args .a .probe) ≡ true
-allowed c = passed (number (c .before)) (c .if1 .left)
+passed : (c : tie.Else1) → first (calibrationArguments (c .before .before .args .a)) ≡ 0
+passed c = sym (c .before .calibration-refusal .ensures) ∙ c .if1 .left
 
-probe-read : (c : tie.After-struct-told2) → let n = c .before .before .before .before .args .a .probe in toZ w64 (ofZ w64 n) ≡ n
-probe-read c = read (c .before .before .before .before .args .a .probe) (c .struct-told2 .given .0 .1)
+-- ---- the probe and the place
+fits : (c : tie.After-struct-told) → SFits w64 (c .before .before .before .args .a .probe)
+fits c = record { sfits = c .struct-told .given .0 .1 }
 
 index-requires : tie.Need-index-requires
 index-requires c κs =
-    let n = c .before .before .before .before .args .a .probe in
-    rw (probe-read c) (within-is (pos 1) (pos 3) n (allowed (c .before)) .0)
+    let e = c .before in
+    from-one 3 (fits c) (numbers-passed (e .before .before .args .a) (passed e) .0)
 
-probe-is : (c : tie.After-index) → c .before .before .before .before .before .args .a .probe ≡ pos (suc (c .index .result))
-probe-is c = sym (probe-read (c .before)) ∙ c .index .ensures
+probe-is : (c : tie.After-index) → c .before .before .before .before .args .a .probe ≡ pos (suc (c .index .result))
+probe-is c = sym (read (c .before .before .before .before .args .a .probe) (c .before .struct-told .given .0 .1)) ∙ c .index .ensures
 
 below : (c : tie.After-index) → c .index .result < 3
-below c = below-top (c .index .result) 3 (rw (probe-is c) at (allowed (c .before .before)))
+below c =
+    let e = c .before .before in
+    in-store 3 (fits (c .before)) (numbers-passed (e .before .before .args .a) (passed e) .0) (c .index .result) (c .index .ensures)
 
-mul-calibrate-probe : tie.Need-mul-calibrate-probe
-mul-calibrate-probe c = omega (arith, below c)
+place-of-requires : tie.Need-place-of-requires
+place-of-requires c κs =
+    let e = c .before .before .before .before in
+    let n = numbers-passed (e .before .before .args .a) (passed e) in
+    search needs
 
-element-copy-out-calibrate-probe : tie.Need-element-copy-out-calibrate-probe
-element-copy-out-calibrate-probe c = below c
+abbrev allowed : tie.After-place-of → tie.Else1
+allowed c = c .before .before .before .before .before
 
-calibrate-probe-requires : tie.Need-calibrate-probe-requires
-calibrate-probe-requires c κs = search needs
+abbrev start : tie.After-place-of → tie.Start
+start c = allowed c .before .before
 
--- ---- what the calibration leaves of the probe
-abbrev start : tie.After-calibrate-probe → tie.Start
-start c = c .before .before .before .before .before .before .before
+abbrev indexed : tie.After-place-of → tie.After-index
+indexed c = c .before .before .before
 
-found : (c : tie.After-calibrate-probe) → let s = start c in c .calibrate-probe .result ≡ calibratedWith (probeOf (s .args .t1) (s .args .a .probe)) (s .args .a)
+place-is : (c : tie.After-place-of) → let a = start c .args .a in c .place-of .result ≡ placeOf (a .axis) (a .direction)
+place-is c = c .place-of .ensures ∙ search needs
+
+place : (c : tie.After-place-of) → (1 ≤ c .place-of .result) × (c .place-of .result ≤ 6)
+place c = rw (place-is c) (place-passed (start c .args .a) (passed (allowed c)))
+
+index : (c : tie.After-place-of) → let a = start c .args .a in placeOf (a .axis) (a .direction) ≡ suc (c .place-of .result - 1)
+index c = omega (arith, place-is c, place c)
+
+mul-x : tie.Need-mul-x
+mul-x c = omega (arith, below (indexed c))
+
+element-copy-out-x : tie.Need-element-copy-out-x
+element-copy-out-x c = below (indexed c)
+
+sub-calibrate-direction : tie.Need-sub-calibrate-direction
+sub-calibrate-direction c = omega (arith, place (c .before))
+
+mul-calibrate-direction : tie.Need-mul-calibrate-direction
+mul-calibrate-direction c = omega (arith, place (c .before))
+
+element-copy-out-calibrate-direction : tie.Need-element-copy-out-calibrate-direction
+element-copy-out-calibrate-direction c = omega (arith, place (c .before))
+
+calibrate-direction-requires : tie.Need-calibrate-direction-requires
+calibrate-direction-requires c κs = let p = c .before .before in (passed (allowed p), place-is p)
+
+-- ---- what the calibration leaves of the direction
+abbrev placed : tie.After-calibrate-direction → tie.After-place-of
+placed c = c .before .before .before
+
+abbrev probe : tie.After-place-of → Probe
+probe c = let s = start c in probeOf (s .args .t1) (s .args .a .probe)
+
+-- the calibration by the probe's number and the place
+abbrev with-place : Package → Calibration → ℤ → ℕ → Calibrated
+with-place p a n place = calibratedWith (pick (pos 0) (probeOf p n .triggers) (pos place)) (probeOf p n .status) a
+
+found : (c : tie.After-calibrate-direction) → c .calibrate-direction .result ≡ directionCalibrated (probe (placed c)) (start (placed c) .args .a)
 found c =
-    let s = start c in
-    c .calibrate-probe .ensures ∙ ap (λ (n : ℤ). calibratedWith (probeOf (s .args .t1) n) (s .args .a)) (sym (probe-is (c .before .before)))
+    let s = start (placed c) in
+    let i = indexed (placed c) in
+    c .calibrate-direction .ensures
+    ∙ ap (λ (z : ℤ). calibratedWith z (probeOf (s .args .t1) (pos (suc (i .index .result))) .status) (s .args .a)) (read-as w32 _ (c .before .calibrate-direction-arg .given))
+    ∙ ap₂ (with-place (s .args .t1) (s .args .a)) (sym (probe-is i)) (sym (index (placed c)))
 
 returns-2 : tie.Need-returns-2
 returns-2 c =
     let f = c .before .before in
-    let s = start f in
-    let r = f .calibrate-probe .result .refusal in
+    let s = start (placed f) in
+    let r = f .calibrate-direction .result .refusal in
     let some : r ≡ suc (r - 1) = omega (arith, c .if2 .taken) in
-    rw some (sym (package-refused (s .args .t1) (s .args .a) (r - 1) (ap (λ (x : Calibrated). x .refusal) (sym (found f)) ∙ some)))
+    rw some (sym (direction-refused (s .args .t1) (s .args .a) (passed (allowed (placed f))) (r - 1) (ap (λ (x : Calibrated). x .refusal) (sym (found f)) ∙ some)))
 
-mul-x : tie.Need-mul-x
-mul-x c = omega (arith, below (c .before .before .before .before .before))
+sub-trigger : tie.Need-sub-trigger
+sub-trigger c = omega (arith, place (placed (c .before .before .before)))
 
-element-set-from-x : tie.Need-element-set-from-x
-element-set-from-x c = below (c .before .before .before .before .before)
+mul-trigger : tie.Need-mul-trigger
+mul-trigger c = omega (arith, place (placed (c .before .before .before)))
 
--- the answer by the probe's number
-abbrev done : Package → ℤ → Probe → Answer
-done p n x = record { after = withProbe p n x; refusal = 0 }
+element-set-from-trigger : tie.Need-element-set-from-trigger
+element-set-from-trigger c = omega (arith, place (placed (c .before .before .before)))
+
+mul-t13 : tie.Need-mul-t13
+mul-t13 c = omega (arith, below (indexed (placed (c .before .before .before))))
+
+element-set-from-after : tie.Need-element-set-from-after
+element-set-from-after c = below (indexed (placed (c .before .before .before)))
+
+-- the answer by the probe's number, the place, the trigger and the status
+abbrev done : Package → ℤ → ℕ → ℤ → ℕ → Answer
+done p n place trigger status =
+    record { after = withProbe p n (record { triggers = put (probeOf p n .triggers) (pos place) trigger; status = status }); refusal = 0 }
 
 returns-3 : tie.Need-returns-3
 returns-3 c =
     let e = c .before in
     let f = e .before .before in
-    let s = start f in
+    let s = start (placed f) in
+    let p = s .args .t1 in
+    let r = f .calibrate-direction .result in
     sym
-    (package-done (s .args .t1) (s .args .a) (ap (λ (x : Calibrated). x .refusal) (sym (found f)) ∙ e .if2 .left)
-    ∙ ap₂ (done (s .args .t1)) (probe-is (f .before .before)) (ap (λ (x : Calibrated). x .after) (sym (found f))))
+    (direction-done p (s .args .a) (passed (allowed (placed f))) (ap (λ (x : Calibrated). x .refusal) (sym (found f)) ∙ e .if2 .left)
+    ∙ ap (λ (x : Calibrated). done p (s .args .a .probe) (placeOf (s .args .a .axis) (s .args .a .direction)) (x .trigger) (x .status)) (sym (found f))
+    ∙ ap₂ (λ (n : ℤ) (place : ℕ). done p n place (r .trigger) (r .status)) (probe-is (indexed (placed f))) (index (placed f))
+    ∙ ap (λ (z : ℤ). done p (pos (suc (indexed (placed f) .index .result))) (suc (placed f .place-of .result - 1)) z (r .status)) (sym (read-as w32 (r .trigger) (c .struct-told4 .given .0 .1))))
 
 pub calibrate-spec : {M : Type 1} → statement M
 calibrate-spec =
     tie.close
     (tie.spec
-    in-range-requires
+    calibration-refusal-requires
     returns
     index-requires
-    mul-calibrate-probe
-    element-copy-out-calibrate-probe
-    calibrate-probe-requires
-    returns-2
+    place-of-requires
     mul-x
-    element-set-from-x
+    element-copy-out-x
+    sub-calibrate-direction
+    mul-calibrate-direction
+    element-copy-out-calibrate-direction
+    calibrate-direction-requires
+    returns-2
+    sub-trigger
+    mul-trigger
+    element-set-from-trigger
+    mul-t13
+    element-set-from-after
     returns-3)
