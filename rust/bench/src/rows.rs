@@ -6,6 +6,8 @@ use crate::inputs;
 use crate::job::LINES;
 use crate::timing::Row;
 use differential::{layout, subject};
+use reference::calibration::Calibrated;
+use reference::{Calibration, Measured, Refusal, ToolMeasurement, ZeroMeasurement};
 
 /// Calls of one round.
 const CALLS: usize = 960;
@@ -67,7 +69,36 @@ fn same<A: Clone>(arguments: Vec<A>) -> (Vec<A>, Vec<A>) {
     both(arguments, A::clone)
 }
 
+/// The reference's calls. They go through pointers: the package's are calls of
+/// a library, and these stay so too in place of being compiled into the loop.
+struct Calls {
+    measure_tool: Measure<ToolMeasurement>,
+    measure_zero: Measure<ZeroMeasurement>,
+    calibrate: fn(&mut reference::Package, &Calibration) -> Result<Calibrated, Refusal>,
+    set_empirical: fn(&mut reference::Package, i64, i64) -> Result<(), Refusal>,
+    load: fn(&mut reference::Package, &[u8]) -> Result<(), Refusal>,
+    save: fn(&reference::Package, &mut [u8]) -> Result<(), Refusal>,
+}
+
+type Measure<A> = fn(&mut reference::Package, &A, &mut [i32], usize) -> Result<Measured, Refusal>;
+
+fn calls() -> Calls {
+    black_box(Calls {
+        measure_tool: reference::Package::measure_tool,
+        measure_zero: reference::Package::measure_zero,
+        calibrate: reference::Package::calibrate,
+        set_empirical: reference::Package::set_empirical,
+        load: reference::Package::load,
+        save: reference::Package::save,
+    })
+}
+
 fn measurements(start: &Start) -> [Row<'_>; 2] {
+    let Calls {
+        measure_tool,
+        measure_zero,
+        ..
+    } = calls();
     let (mut ours, mut theirs) = ([0; 42], [0; 42]);
     let (mut our_zero, mut their_zero) = (ours, theirs);
     [
@@ -80,7 +111,7 @@ fn measurements(start: &Start) -> [Row<'_>; 2] {
                 let _ = black_box(result);
             },
             move |package, part| {
-                let result = package.measure_tool(part, black_box(&mut theirs), 0);
+                let result = measure_tool(package, part, black_box(&mut theirs), 0);
                 let _ = black_box(result);
             },
         ),
@@ -93,7 +124,7 @@ fn measurements(start: &Start) -> [Row<'_>; 2] {
                 let _ = black_box(result);
             },
             move |package, part| {
-                let result = package.measure_zero(part, black_box(&mut their_zero), 0);
+                let result = measure_zero(package, part, black_box(&mut their_zero), 0);
                 let _ = black_box(result);
             },
         ),
@@ -101,6 +132,11 @@ fn measurements(start: &Start) -> [Row<'_>; 2] {
 }
 
 fn settings(start: &Start) -> [Row<'_>; 2] {
+    let Calls {
+        calibrate,
+        set_empirical,
+        ..
+    } = calls();
     let values: Vec<(i64, i64)> = (0..60).map(|turn| (1 + turn % 20, turn - 30)).collect();
     [
         row(
@@ -110,8 +146,8 @@ fn settings(start: &Start) -> [Row<'_>; 2] {
             |package, calibration| {
                 let _ = black_box(package.calibrate(calibration));
             },
-            |package, calibration| {
-                let _ = black_box(package.calibrate(calibration));
+            move |package, calibration| {
+                let _ = black_box(calibrate(package, calibration));
             },
         ),
         row(
@@ -121,14 +157,15 @@ fn settings(start: &Start) -> [Row<'_>; 2] {
             |package, &(ev, value)| {
                 let _ = black_box(package.set_empirical(ev, value));
             },
-            |package, &(ev, value)| {
-                let _ = black_box(package.set_empirical(ev, value));
+            move |package, &(ev, value)| {
+                let _ = black_box(set_empirical(package, ev, value));
             },
         ),
     ]
 }
 
 fn blocks(start: &Start) -> [Row<'_>; 2] {
+    let Calls { load, save, .. } = calls();
     let block =
         |turn: u8| -> Vec<u8> { (0..80).map(|place: u8| place.wrapping_mul(turn)).collect() };
     let (mut ours, mut theirs) = ([0; 80], [0; 80]);
@@ -140,8 +177,8 @@ fn blocks(start: &Start) -> [Row<'_>; 2] {
             |package, block| {
                 let _ = black_box(package.load(block));
             },
-            |package, block| {
-                let _ = black_box(package.load(block));
+            move |package, block| {
+                let _ = black_box(load(package, block));
             },
         ),
         row(
@@ -152,7 +189,7 @@ fn blocks(start: &Start) -> [Row<'_>; 2] {
                 let _ = black_box(package.save(black_box(&mut ours)));
             },
             move |package, ()| {
-                let _ = black_box(package.save(black_box(&mut theirs)));
+                let _ = black_box(save(package, black_box(&mut theirs)));
             },
         ),
     ]

@@ -43,9 +43,14 @@ impl Package {
         &self.records
     }
 
+    /// The planted fault, none where the crate is built without them.
+    pub(crate) fn planted(&self) -> Option<Fault> {
+        self.fault.filter(|_| cfg!(feature = "faults"))
+    }
+
     /// Whether this fault was planted.
     pub(crate) fn has(&self, fault: Fault) -> bool {
-        self.fault == Some(fault)
+        self.planted() == Some(fault)
     }
 
     /// "Setting calls replace one EV": 2 outside 1..20, 3 outside

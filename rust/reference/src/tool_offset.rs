@@ -133,7 +133,9 @@ impl Package {
         let deviation = sizes.measured - empirical - call.feature.setpoint;
         call.tolerance.check_deviation(deviation)?;
         let mean = used.mv.map(|index| i64::from(self.records.mv[index]));
-        let decision = call.tolerance.decide(deviation, mean, call.k, self.fault);
+        let decision = call
+            .tolerance
+            .decide(deviation, mean, call.k, self.planted());
 
         let mut term = wear_term(&call.feature, used.plan.kind);
         if self.has(Fault::ShaftSign) && used.plan.kind == Kind::Shaft {
