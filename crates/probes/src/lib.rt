@@ -83,7 +83,8 @@ fn mark_place(status: u8, place: usize) -> u8
     requires { ⌜ (1 ≤ place) × (place ≤ 6) ⌝ }
     ensures { λ r. ⌜ r ≡ mark (status % 64) place ⌝ }
 {
-    (status % 64) | (1 << (place - 1))
+    let low = (status % 64) as u32;
+    (low | (1 << (place - 1))) as u8
 }
 
 fn numbers_ok(a: Calibration) -> bool
