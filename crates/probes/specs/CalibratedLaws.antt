@@ -2,7 +2,7 @@
 use mathlib.Core.Path.{_≡_, refl, sym, ap, _∙_}
 use mathlib.Core.Bool.{Bool, true, false, cond}
 use mathlib.Core.List.{List}
-use Prim.Native.Nat.{ℕ, zero, suc, _%_, _≤_}
+use Prim.Native.Nat.{ℕ, zero, suc, _%_, _≤_, _<_}
 use native.Mathlib.Omega.{arith}
 use lib.IntN.{ℤ, pos}
 use lib.Seq.{set-getD}
@@ -16,7 +16,7 @@ use Rattle.rules.specs.RefusalLaws.{Numbered, Passed, all-passed, first-sooner,
 use Rattle.rules.specs.Stores.{pick, put, probeNumber, axisNumber, directionNumber, probeOf, withProbe}
 use Rattle.rules.specs.Probes.{placeOf, triggerOf, statusOf, mark}
 use Rattle.rules.specs.Calibration.{newTrigger, change, calibrationPositions, calibrationArguments, calibrationRecords, calibratedProbe}
-use Rattle.rules.specs.ProbeLaws.{numbers-are, place-in}
+use Rattle.rules.specs.ProbeLaws.{numbers-are, place-in, calibrated-status}
 use Rattle.rules.specs.Calls.{refusal, answered, calibrate}
 use Rattle.rules.specs.CallLaws.{refused, accepted}
 use Rattle.probes.specs.Calibrated.{changeSize, directionRefusal, calibratedWith, directionCalibrated, withDirection}
@@ -82,6 +82,13 @@ module _ (x : Probe) (a : Calibration) where
       go : (b : Bool) → probe (cond b (put (x .triggers) (pos place) (newTrigger a)) (x .triggers)) ≡ probe (put (x .triggers) (pos place) (cond b (newTrigger a) stored))
       go true = refl
       go false = ap probe (sym (put-same (x .triggers) place))
+
+-- the status that it leaves has six bits
+pub status-left : (x : Probe) (a : Calibration) → first (calibrationArguments a) ≡ 0 → directionCalibrated x a .refusal ≡ 0 → directionCalibrated x a .status < 64
+unfolding calibrationArguments
+status-left x a passed e =
+    let same : calibratedProbe x a .status ≡ directionCalibrated x a .status = ap (λ (y : Probe). y .status) (probe-done x a e) in
+    omega (arith, same, calibrated-status a (every-rule a passed .0) x)
 
 -- the same of the package that has the probe
 module _ (p : Package) (a : Calibration) where

@@ -79,11 +79,12 @@ pub fn sign_of(direction: i64) -> i64
 }
 
 // The six low bits of a status with the bit of a place 1..6 set.
-fn mark_place(status: u8, place: usize) -> u8
+fn mark_place(status: u8, place: usize) -> u32
     requires { ⌜ (1 ≤ place) × (place ≤ 6) ⌝ }
     ensures { λ r. ⌜ r ≡ mark (status % 64) place ⌝ }
 {
-    (status % 64) | (1 << (place - 1))
+    let low = (status % 64) as u32;
+    low | (1 << (place - 1))
 }
 
 fn numbers_ok(a: Calibration) -> bool
@@ -132,7 +133,7 @@ fn new_trigger(a: Calibration) -> i64
 // What a calibration leaves of a direction: its trigger and the status of its probe, as they were where it is refused.
 pub struct Calibrated {
     pub trigger: i32,
-    pub status: u8,
+    pub status: u32,
     pub refusal: u32,
 }
 
@@ -147,14 +148,14 @@ pub fn calibrate_direction(trigger: i32, status: u8, place: usize, a: Calibratio
     if a.tsa < d {
         return Calibrated {
             trigger,
-            status,
+            status: status as u32,
             refusal: BEYOND_TSA,
         };
     }
     if !in_range(t, -TRIGGER_LIMIT, TRIGGER_LIMIT) {
         return Calibrated {
             trigger,
-            status,
+            status: status as u32,
             refusal: LEAVES_RANGE,
         };
     }
@@ -193,7 +194,7 @@ pub fn calibrate(p: Package, a: Calibration) -> Answer
     }
     let trigger = c.trigger;
     x.triggers[place - 1] = trigger;
-    x.status = c.status;
+    x.status = c.status as u8;
     let mut after = p;
     after.probes[i] = x;
     Answer {

@@ -1,5 +1,5 @@
-use mathlib.Core.Path.{_≡_, ap, ap₂, _∙_}
-use Prim.Native.Nat.{ℕ, suc, _-_, _≤_, _<_, _^_}
+use mathlib.Core.Path.{_≡_, sym, ap, ap₂, _∙_}
+use Prim.Native.Nat.{ℕ, suc, _-_, _≤_, _<_}
 use native.Mathlib.Omega.{arith}
 use lib.IntN.{ℤ}
 use lib.ListN.{set, length-set}
@@ -8,8 +8,9 @@ use mir.Facts.{toZ-pos}
 use borrow.Author.Needs.{needs}
 use Rattle.signed.specs.CodeLaws.{read-as}
 use Rattle.rules.specs.Probes.{placeOf}
+use Rattle.probes.specs.declared.Calibrated.{Calibrated}
 use Rattle.probes.specs.Calibrated.{calibratedWith, directionCalibrated}
-use Rattle.probes.specs.CalibratedLaws.{numbers-passed, place-passed}
+use Rattle.probes.specs.CalibratedLaws.{numbers-passed, place-passed, status-left}
 use Rattle.boundary.specs.Area.{statusFrom, probeFrom}
 use Rattle.boundary.specs.Exports.{left}
 use Rattle.boundary.specs.PartLaws.{part-found, part-left, part-done, part-refused}
@@ -80,17 +81,20 @@ mul-trigger c = omega (arith, low (placed (c .before .before .before)))
 slice-set-from-trigger : tie.Need-slice-set-from-trigger
 slice-set-from-trigger c = let p = placed (c .before .before .before) in omega (arith, low p, start p .pre .0)
 
+-- the status has six bits
+small : (c : tie.After-calibrate-direction) → c .calibrate-direction .result .refusal ≡ 0 → c .calibrate-direction .result .status < 64
+small c e =
+    let s = start (placed c) in
+    rw (found c) (status-left (probeFrom (s .args .part .now)) (s .args .a) (s .pre .1) (ap (λ (x : Calibrated). x .refusal) (sym (found c)) ∙ e))
+
 cast-part : tie.Need-cast-part
-cast-part c = search needs
+cast-part c = let t = c .before .before in omega (arith, small (t .before .before) (t .if1 .taken))
 
 slice-set-from-part : tie.Need-slice-set-from-part
 slice-set-from-part c = simp length-set (omega (arith, start (placed (c .before .before .before .before)) .pre .0))
 
 same-length : tie.Need-same-length
 same-length c = search needs
-
-status : (c : tie.After-calibrate-direction) → c .calibrate-direction .result .status < 2 ^ 31
-status c = search needs
 
 returns : tie.Need-returns
 returns c =
@@ -104,7 +108,7 @@ returns c =
     let r = f .calibrate-direction .result in
     rw (t .if1 .taken)
     (ap (left 0)
-    (ap₂ (λ (z w : ℤ). set (set part at z) 6 w) (read-as w32 (r .trigger) (told .struct-told3 .given .0 .1)) (toZ-pos w32 {n = r .status} (status f))
+    (ap₂ (λ (z w : ℤ). set (set part at z) 6 w) (read-as w32 (r .trigger) (told .struct-told3 .given .0 .1)) (toZ-pos w32 {n = r .status} (omega (arith, small f (t .if1 .taken))))
     ∙ part-left part (s .args .a) at (s .pre .0) (low p) (index p) r)
     ∙ part-done part (s .args .a) (found f) (t .if1 .taken))
 

@@ -130,8 +130,8 @@ cast c =
     let t = known (c .before .before) .before in
     casts w32 (minus 100000) (pos 100000) (record { sfits = t .before .new-trigger .ok }) tt tt (ap triggerRange (new t) ∙ in-range c)
 
-cast-t12 : tie.Need-cast-t12
-cast-t12 c = cast (c .before .before .before .before) .fits
+cast-t14 : tie.Need-cast-t14
+cast-t14 c = cast (c .before .before .before .before) .fits
 
 -- the code's test of TZL < |d|
 more : (c : tie.After-struct-told2) (b : Bool) →
@@ -173,6 +173,6 @@ calibrate-direction-spec =
     in-range-requires
     returns-2
     mark-place-requires
-    cast-t12
+    cast-t14
     returns-3
     returns-4)
