@@ -281,14 +281,14 @@ pub extern "C" fn mezhtolik_measure_tool(
     if stated != DONE {
         return refuse(stated, results, place);
     }
-    let l = tool_left(tool_records(&area[..], a), a);
-    let found = l.numbers;
+    let t = tool_left(tool_records(&area[..], a), a);
+    let found = t.numbers;
     write_results(found, results, place);
-    put_tool(l, a, area);
+    put_tool(t, a, area);
     Decision {
-        refusal: l.refusal,
-        branch: l.branch,
-        verdict: l.verdict,
+        refusal: t.refusal,
+        branch: t.branch,
+        verdict: t.verdict,
     }
 }
 
@@ -316,14 +316,14 @@ pub extern "C" fn mezhtolik_measure_zero(
     if stated != DONE {
         return refuse(stated, results, place);
     }
-    let l = zero_left(zero_records(&area[..], a), a);
-    let found = l.numbers;
+    let z = zero_left(zero_records(&area[..], a), a);
+    let found = z.numbers;
     write_results(found, results, place);
-    put_zero(l, a, area);
+    put_zero(z, a, area);
     Decision {
-        refusal: l.refusal,
-        branch: l.branch,
-        verdict: l.verdict,
+        refusal: z.refusal,
+        branch: z.branch,
+        verdict: z.verdict,
     }
 }
 
