@@ -30,7 +30,7 @@ ghost use Rattle.rules.specs.Calls.{answered, calibrate};
 ghost use Rattle.probes.specs.Calibrated.{triggerRead, calibratedWith};
 ghost use Rattle.probes.specs.StatusAnswer.{statusAnswer};
 
-// The trigger place of each axis and direction: axis 1 positive, negative, axis 2, axis 3.
+// The trigger place of each axis and direction: axis 1 positive, negative, axis 2, axis 3. Bytes, since every look-up writes the list anew.
 const PLACES: [u8; 6] = [2, 1, 4, 3, 6, 5];
 
 // The trigger place of an axis 1..3 and a direction 0 or 1. No call of a user.
@@ -130,7 +130,8 @@ fn new_trigger(a: Calibration) -> i64
     sign_of(a.direction) * (a.setpoint - a.raw)
 }
 
-// What a calibration leaves of a direction: its trigger and the status of its probe, as they were where it is refused.
+// What a calibration leaves of a direction: its trigger and the status of its probe, as they were where it is refused. The status is a u32 as
+// the bits of `Status` are.
 pub struct Calibrated {
     pub trigger: i32,
     pub status: u32,
