@@ -19,8 +19,9 @@ use Rattle.jobs.specs.Jobs.{jobRan, jobOutput}
 use Rattle.jobs.specs.declared.Ran.{Ran}
 use Rattle.boundary.specs.declared.Decision.{Decision}
 use Rattle.boundary.specs.declared.StatusBits.{StatusBits}
-use Rattle.boundary.specs.Area.{packed, unpacked}
-use Rattle.boundary.specs.Exports.{wholeArea, renewedBy, renewed, stored, left, called, freshCalled, statusBits, statusCalled, savedAs, saveCalled, reply, decided, undecided, replied, jobLeft, jobReply, jobCalled}
+use Rattle.area.specs.Area.{packed, unpacked}
+use Rattle.area.specs.Renewed.{wholeArea, renewedBy, renewed, stored, left, called}
+use Rattle.boundary.specs.Exports.{freshCalled, statusBits, statusCalled, savedAs, saveCalled, reply, decided, undecided, replied, jobLeft, jobReply, jobCalled}
 
 module _ (area : List ℤ) (wrong : length area ≡ 137 → ⊥) where
   not-whole : wholeArea area ≡ false

@@ -1,11 +1,5 @@
-pub mod Area
-pub mod AreaLaws
-pub mod LoopLaws
 pub mod Exports
 pub mod ExportLaws
-pub mod ReplacedLaws
-pub mod RecordLaws
-pub mod RenewedLaws
+pub mod PartLaws
 pub mod Measurements
 pub mod MeasurementLaws
-pub mod PartLaws

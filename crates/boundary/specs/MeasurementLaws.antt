@@ -20,10 +20,10 @@ use Rattle.tool_offset.specs.declared.ToolLeft.{ToolLeft}
 use Rattle.zero_offset.specs.Zero.{ZeroPassed, zeroLeftIn, zeroLeftOutcome}
 use Rattle.zero_offset.specs.ZeroLaws.{offset-passed}
 use Rattle.zero_offset.specs.declared.ZeroLeft.{ZeroLeft}
-use Rattle.boundary.specs.Area.{meansAt, toolsAt, offsetsAt, wearNumbers, offsetNumbers, unpacked}
-use Rattle.boundary.specs.Exports.{replacedAt, renewedBy, stored}
+use Rattle.area.specs.Area.{meansAt, toolsAt, offsetsAt, wearNumbers, offsetNumbers, unpacked}
+use Rattle.area.specs.Renewed.{replacedAt, renewedBy, stored}
 use Rattle.boundary.specs.Measurements.{toolPut, zeroPut}
-use Rattle.boundary.specs.RecordLaws.{tools-long, offsets-long, means-long, wear-put, offset-put, value-put}
+use Rattle.area.specs.RecordLaws.{tools-long, offsets-long, means-long, wear-put, offset-put, value-put}
 
 module _ (area : List ℤ) (array : List ℤ) (place : ℕ) where
   -- the package p is left as q where the refusal is 0

@@ -5,8 +5,8 @@ use Rattle.package.specs.declared.ToolMeasurement.{ToolMeasurement}
 use Rattle.package.specs.declared.ZeroMeasurement.{ZeroMeasurement}
 use Rattle.tool_offset.specs.declared.ToolLeft.{ToolLeft}
 use Rattle.zero_offset.specs.declared.ZeroLeft.{ZeroLeft}
-use Rattle.boundary.specs.Area.{meansAt, toolsAt, offsetsAt, wearNumbers, offsetNumbers}
-use Rattle.boundary.specs.Exports.{replacedAt}
+use Rattle.area.specs.Area.{meansAt, toolsAt, offsetsAt, wearNumbers, offsetNumbers}
+use Rattle.area.specs.Renewed.{replacedAt}
 
 abbrev pub toolPut : List ℤ → ToolMeasurement → ToolLeft → List ℤ
 toolPut area a l = replacedAt (replacedAt area meansAt 1 (a .mv) (l .mean ∷ [])) toolsAt 2 (a .tool) (wearNumbers (l .wear))

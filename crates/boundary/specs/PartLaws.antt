@@ -19,11 +19,12 @@ use Rattle.rules.specs.Calls.{calibrate}
 use Rattle.probes.specs.declared.Calibrated.{Calibrated}
 use Rattle.probes.specs.Calibrated.{calibratedWith, directionCalibrated, withDirection}
 use Rattle.probes.specs.CalibratedLaws.{direction-refused, direction-done}
-use Rattle.boundary.specs.Area.{probeNumbers, probeFrom, statusFrom, unpacked}
-use Rattle.boundary.specs.Exports.{probeRenewed, renewedBy, stored, Left, left, called, partCalibrated}
+use Rattle.area.specs.Area.{probeNumbers, probeFrom, statusFrom, unpacked}
+use Rattle.area.specs.Renewed.{probeRenewed, renewedBy, stored, Left, left, called}
+use Rattle.boundary.specs.Exports.{partCalibrated}
 use Rattle.boundary.specs.ExportLaws.{done-call, refused-call}
-use Rattle.boundary.specs.LoopLaws.{part-long}
-use Rattle.boundary.specs.ReplacedLaws.{put-replaced, probe-at, probe-renewed}
+use Rattle.area.specs.LoopLaws.{part-long}
+use Rattle.area.specs.ReplacedLaws.{put-replaced, probe-at, probe-renewed}
 
 -- ---- the 7 numbers
 module _ (part : List ℤ) (a : Calibration) (at : ℕ) (long : length part ≡ 7) (low : at < 6) (place : placeOf (a .axis) (a .direction) ≡ suc at) where

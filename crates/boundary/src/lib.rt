@@ -1,7 +1,5 @@
 // Every call of the package for C: the records in an area that the caller lends, 137 numbers, and numbers and slices beside it.
 mod measure;
-mod read;
-mod write;
 
 use crate::measure::not_made;
 use crate::measure::put_tool;
@@ -9,14 +7,17 @@ use crate::measure::put_zero;
 use crate::measure::refuse;
 use crate::measure::tool_records;
 use crate::measure::zero_records;
-use crate::read::read_memory;
-use crate::read::status_from;
-use crate::read::unpack;
-use crate::write::pack;
-use crate::write::put_offset;
-use crate::write::put_value;
-use crate::write::put_wear;
-use crate::write::write_block;
+use area::AREA;
+use area::EMPIRICAL;
+use area::TOOLS;
+use area::read::read_memory;
+use area::read::status_from;
+use area::read::unpack;
+use area::write::pack;
+use area::write::put_offset;
+use area::write::put_value;
+use area::write::put_wear;
+use area::write::write_block;
 use job_text::arguments::tool_of;
 use job_text::arguments::zero_of;
 use jobs::run_job;
@@ -50,8 +51,9 @@ ghost use lib.ListN.{length};
 ghost use Rattle.rules.specs.Refusals.{first};
 ghost use Rattle.rules.specs.Calibration.{calibrationArguments};
 ghost use Rattle.rules.specs.Calls.{setEmpirical, setWear, setOffset, calibrate, load};
-ghost use Rattle.boundary.specs.Area.{packed};
-ghost use Rattle.boundary.specs.Exports.{stored, left, called, freshCalled, calibration, partCalibrated, statusCalled, savedAs, saveCalled, reply, toolCalled, zeroCalled, jobLeft, jobCalled};
+ghost use Rattle.area.specs.Area.{packed};
+ghost use Rattle.area.specs.Renewed.{stored, left, called};
+ghost use Rattle.boundary.specs.Exports.{freshCalled, calibration, partCalibrated, statusCalled, savedAs, saveCalled, reply, toolCalled, zeroCalled, jobLeft, jobCalled};
 
 // Refusals of this crate alone: an area that has not 137 numbers; arguments that are not as many as a measurement's.
 pub const WRONG_AREA: u32 = 100;
@@ -62,17 +64,6 @@ pub const WRONG_ARGUMENTS: u32 = 101;
 const TOOL_NUMBERS: usize = 21;
 
 const ZERO_NUMBERS: usize = 13;
-
-// Where each section of the area starts, and how many numbers the area has.
-const EMPIRICAL: usize = 21;
-
-const MEANS: usize = 41;
-
-const TOOLS: usize = 61;
-
-const OFFSETS: usize = 125;
-
-const AREA: usize = 137;
 
 // What a measurement answers: branch and verdict are 0 where it is refused.
 #[repr(C)]

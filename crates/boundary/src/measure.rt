@@ -1,14 +1,14 @@
 // What a measurement reads of an area, and what it leaves in the area and the result array.
 use crate::Decision;
-use crate::EMPIRICAL;
-use crate::MEANS;
-use crate::read::offset_at;
-use crate::read::probe_at;
-use crate::read::value_at;
-use crate::read::wear_at;
-use crate::write::put_offset;
-use crate::write::put_value;
-use crate::write::put_wear;
+use area::EMPIRICAL;
+use area::MEANS;
+use area::read::offset_at;
+use area::read::probe_at;
+use area::read::value_at;
+use area::read::wear_at;
+use area::write::put_offset;
+use area::write::put_value;
+use area::write::put_wear;
 use measuring::write_results;
 use package::DONE;
 use package::ToolMeasurement;
@@ -24,8 +24,9 @@ ghost use lib.ListN.{length};
 ghost use Rattle.rules.specs.Results.{refusedResults, written};
 ghost use Rattle.tool_offset.specs.Tool.{ToolPassed, toolRecordsOf};
 ghost use Rattle.zero_offset.specs.Zero.{ZeroPassed, zeroRecordsOf};
-ghost use Rattle.boundary.specs.Area.{unpacked};
-ghost use Rattle.boundary.specs.Exports.{stored, undecided};
+ghost use Rattle.area.specs.Area.{unpacked};
+ghost use Rattle.area.specs.Renewed.{stored};
+ghost use Rattle.boundary.specs.Exports.{undecided};
 ghost use Rattle.boundary.specs.Measurements.{toolPut, zeroPut};
 
 // A measurement that is not made. No call of a user.

@@ -11,8 +11,8 @@ use Rattle.rules.specs.Probes.{placeOf}
 use Rattle.probes.specs.declared.Calibrated.{Calibrated}
 use Rattle.probes.specs.Calibrated.{calibratedWith, directionCalibrated}
 use Rattle.probes.specs.CalibratedLaws.{numbers-passed, place-passed, status-left}
-use Rattle.boundary.specs.Area.{statusFrom, probeFrom}
-use Rattle.boundary.specs.Exports.{left}
+use Rattle.area.specs.Area.{statusFrom, probeFrom}
+use Rattle.area.specs.Renewed.{left}
 use Rattle.boundary.specs.PartLaws.{part-found, part-left, part-done, part-refused}
 use Rattle.boundary.proofs.calibrate_part.Statement.{statement}
 use Rattle.boundary.proofs.calibrate_part.Tie as tie

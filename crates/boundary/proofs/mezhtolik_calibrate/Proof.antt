@@ -13,10 +13,10 @@ use Rattle.rules.specs.Refusals.{first}
 use Rattle.rules.specs.Calibration.{calibrationArguments}
 use Rattle.rules.specs.Calls.{calibrate}
 use Rattle.probes.specs.CalibratedLaws.{numbers-passed, arguments-refused}
-use Rattle.boundary.specs.Area.{unpacked}
+use Rattle.area.specs.Area.{unpacked}
 use Rattle.boundary.specs.Exports.{calibration, partCalibrated}
 use Rattle.boundary.specs.ExportLaws.{wrong-call, refused-call}
-use Rattle.boundary.specs.LoopLaws.{part-long}
+use Rattle.area.specs.LoopLaws.{part-long}
 use Rattle.boundary.specs.PartLaws.{calibrate-left}
 use Rattle.boundary.proofs.mezhtolik_calibrate.Statement.{statement}
 use Rattle.boundary.proofs.mezhtolik_calibrate.Tie as tie

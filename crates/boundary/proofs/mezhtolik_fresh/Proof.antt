@@ -1,5 +1,5 @@
 use mathlib.Core.Path.{_∙_, ap}
-use Rattle.boundary.specs.Area.{packed}
+use Rattle.area.specs.Area.{packed}
 use Rattle.boundary.specs.ExportLaws.{wrong-fresh, right-fresh}
 use borrow.Author.Needs.{needs}
 use Rattle.boundary.proofs.mezhtolik_fresh.Statement.{statement}

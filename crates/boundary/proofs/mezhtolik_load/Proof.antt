@@ -8,9 +8,9 @@ use borrow.Author.Needs.{needs}
 use borrow.Author.Tests.{ne-eqb, eq-eqb}
 use Rattle.rules.specs.Block.{words}
 use Rattle.rules.specs.Calls.{load}
-use Rattle.boundary.specs.Exports.{replaced, renewedBy}
+use Rattle.area.specs.Renewed.{replaced, renewedBy}
 use Rattle.boundary.specs.ExportLaws.{wrong-call, call-done, call-refused}
-use Rattle.boundary.specs.ReplacedLaws.{put-replaced}
+use Rattle.area.specs.ReplacedLaws.{put-replaced}
 use Rattle.boundary.proofs.mezhtolik_load.Statement.{statement}
 use Rattle.boundary.proofs.mezhtolik_load.Tie as tie
 

@@ -23,7 +23,7 @@ use Rattle.tool_offset.specs.Tool.{ToolPassed, toolRecordsOf, toolLeft, toolLef
 use Rattle.tool_offset.specs.ToolLaws.{arguments-passed, arguments-sooner, arguments-small, outcome-left}
 use Rattle.measuring.specs.CallLaws.{tool-no-room, tool-with-room}
 use Rattle.job_text.specs.Letters.{toolOf}
-use Rattle.boundary.specs.Area.{unpacked}
+use Rattle.area.specs.Area.{unpacked}
 use Rattle.boundary.specs.Exports.{toolCalled}
 use Rattle.boundary.specs.ExportLaws.{wrong-reply, wrong-arguments, made-reply}
 use Rattle.boundary.specs.MeasurementLaws.{tool-stored}

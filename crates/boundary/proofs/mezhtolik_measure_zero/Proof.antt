@@ -23,7 +23,7 @@ use Rattle.zero_offset.specs.Zero.{ZeroPassed, zeroRecordsOf, zeroLeft, zeroLef
 use Rattle.zero_offset.specs.ZeroLaws.{arguments-passed, arguments-sooner, arguments-small, outcome-left}
 use Rattle.measuring.specs.CallLaws.{zero-no-room, zero-with-room}
 use Rattle.job_text.specs.Letters.{zeroOf}
-use Rattle.boundary.specs.Area.{unpacked}
+use Rattle.area.specs.Area.{unpacked}
 use Rattle.boundary.specs.Exports.{zeroCalled}
 use Rattle.boundary.specs.ExportLaws.{wrong-reply, wrong-arguments, made-reply}
 use Rattle.boundary.specs.MeasurementLaws.{zero-stored}

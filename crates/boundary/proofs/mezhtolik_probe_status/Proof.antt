@@ -10,7 +10,7 @@ use Rattle.signed.specs.CodeLaws.{read-as, failed, passed, from-one, in-store}
 use Rattle.rules.specs.Stores.{probeNumber, probeOf}
 use Rattle.probes.specs.StatusAnswer.{statusAnswer}
 use Rattle.probes.specs.StatusAnswerLaws.{status-refused, status-read}
-use Rattle.boundary.specs.Area.{statusFrom, unpacked}
+use Rattle.area.specs.Area.{statusFrom, unpacked}
 use Rattle.boundary.specs.Exports.{statusBits}
 use Rattle.boundary.specs.ExportLaws.{wrong-status, right-status}
 use Rattle.boundary.specs.PartLaws.{probe-status}

@@ -10,10 +10,10 @@ use Rattle.rules.specs.Refusals.{first}
 use Rattle.rules.specs.Settings.{empiricalRules}
 use Rattle.rules.specs.Calls.{Call, setEmpirical}
 use Rattle.records.specs.SettingLaws.{empirical-number, empirical-cast}
-use Rattle.boundary.specs.Area.{empiricalAt, unpacked}
-use Rattle.boundary.specs.Exports.{renewedBy}
+use Rattle.area.specs.Area.{empiricalAt, unpacked}
+use Rattle.area.specs.Renewed.{renewedBy}
 use Rattle.boundary.specs.ExportLaws.{wrong-call, call-done, call-refused}
-use Rattle.boundary.specs.RecordLaws.{named, empirical-long, value-put}
+use Rattle.area.specs.RecordLaws.{named, empirical-long, value-put}
 use Rattle.boundary.proofs.mezhtolik_set_empirical.Statement.{statement}
 use Rattle.boundary.proofs.mezhtolik_set_empirical.Tie as tie
 

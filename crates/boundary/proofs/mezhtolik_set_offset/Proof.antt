@@ -10,10 +10,10 @@ use Rattle.rules.specs.Refusals.{first}
 use Rattle.rules.specs.Settings.{offsetRules}
 use Rattle.rules.specs.Calls.{Call, setOffset}
 use Rattle.records.specs.SettingLaws.{offset-number, offset-casts}
-use Rattle.boundary.specs.Area.{offsetsAt, offsetNumbers, unpacked}
-use Rattle.boundary.specs.Exports.{replacedAt, renewedBy}
+use Rattle.area.specs.Area.{offsetsAt, offsetNumbers, unpacked}
+use Rattle.area.specs.Renewed.{replacedAt, renewedBy}
 use Rattle.boundary.specs.ExportLaws.{wrong-call, call-done, call-refused}
-use Rattle.boundary.specs.RecordLaws.{offsets-long, offset-put}
+use Rattle.area.specs.RecordLaws.{offsets-long, offset-put}
 use Rattle.boundary.proofs.mezhtolik_set_offset.Statement.{statement}
 use Rattle.boundary.proofs.mezhtolik_set_offset.Tie as tie
 

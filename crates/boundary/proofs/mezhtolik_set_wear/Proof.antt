@@ -10,10 +10,10 @@ use Rattle.rules.specs.Refusals.{first}
 use Rattle.rules.specs.Settings.{wearRules}
 use Rattle.rules.specs.Calls.{Call, setWear}
 use Rattle.records.specs.SettingLaws.{tool-number, wear-casts}
-use Rattle.boundary.specs.Area.{toolsAt, wearNumbers, unpacked}
-use Rattle.boundary.specs.Exports.{replacedAt, renewedBy}
+use Rattle.area.specs.Area.{toolsAt, wearNumbers, unpacked}
+use Rattle.area.specs.Renewed.{replacedAt, renewedBy}
 use Rattle.boundary.specs.ExportLaws.{wrong-call, call-done, call-refused}
-use Rattle.boundary.specs.RecordLaws.{tools-long, wear-put}
+use Rattle.area.specs.RecordLaws.{tools-long, wear-put}
 use Rattle.boundary.proofs.mezhtolik_set_wear.Statement.{statement}
 use Rattle.boundary.proofs.mezhtolik_set_wear.Tie as tie
 

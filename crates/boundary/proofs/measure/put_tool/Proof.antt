@@ -8,8 +8,8 @@ use borrow.Author.Tests.{ne-eqb}
 use borrow.Author.Needs.{needs}
 use Rattle.signed.specs.CodeLaws.{read, read-as}
 use Rattle.rules.specs.MeasuringLaws.{tool-numbers}
-use Rattle.boundary.specs.Area.{wearNumbers}
-use Rattle.boundary.specs.Exports.{replacedAt, stored}
+use Rattle.area.specs.Area.{wearNumbers}
+use Rattle.area.specs.Renewed.{replacedAt, stored}
 use Rattle.boundary.specs.Measurements.{toolPut}
 use Rattle.boundary.proofs.measure.put_tool.Statement.{statement}
 use Rattle.boundary.proofs.measure.put_tool.Tie as tie

@@ -4,7 +4,7 @@ use borrow.Author.Tests.{ne-eqb}
 use borrow.Author.Needs.{needs}
 use Rattle.signed.specs.CodeLaws.{read}
 use Rattle.zero_offset.specs.ZeroLaws.{offset-passed}
-use Rattle.boundary.specs.Exports.{stored}
+use Rattle.area.specs.Renewed.{stored}
 use Rattle.boundary.specs.Measurements.{zeroPut}
 use Rattle.boundary.proofs.measure.put_zero.Statement.{statement}
 use Rattle.boundary.proofs.measure.put_zero.Tie as tie

@@ -3,7 +3,7 @@ use mir.Syntax.{w16}
 use Rattle.signed.specs.CodeLaws.{read, read-as}
 use Rattle.rules.specs.MeasuringLaws.{tool-numbers}
 use Rattle.tool_offset.specs.ToolLaws.{probe-passed}
-use Rattle.boundary.specs.Area.{unpacked}
+use Rattle.area.specs.Area.{unpacked}
 use Rattle.boundary.proofs.measure.tool_records.Statement.{statement}
 use Rattle.boundary.proofs.measure.tool_records.Tie as tie
 
