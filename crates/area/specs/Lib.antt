@@ -2,6 +2,6 @@ pub mod Area
 pub mod AreaLaws
 pub mod LoopLaws
 pub mod Renewed
-pub mod ReplacedLaws
+pub mod SectionLaws
 pub mod RecordLaws
 pub mod RenewedLaws

@@ -5,7 +5,8 @@ use mathlib.Core.List.{List, [], _∷_, _++_}
 use Prim.Native.Nat.{ℕ, zero, suc, _+_, _*_}
 use lib.Dec.{eqb}
 use lib.IntN.{ℤ, pos, negsuc}
-use lib.ListN.{length, take, drop}
+use lib.ListN.{length}
+use Rattle.lists.specs.Written.{written}
 use Rattle.package.specs.declared.Package.{Package}
 use Rattle.rules.specs.Stores.{pick, probeOf, wearOf, offsetOf}
 use Rattle.rules.specs.Calls.{Call, setEmpirical, setWear, setOffset, calibrate, readStatus, measureTool, measureZero, load, save, refusal, done}
@@ -16,14 +17,10 @@ wholeArea area = eqb (length area) areaLength
 
 -- ---- the area after a call that is done: just the numbers of the records that it changes are replaced
 
--- numbers in place of as many from a place on
-abbrev pub replaced : List ℤ → ℕ → List ℤ → List ℤ
-replaced area place numbers = take place area ++ (numbers ++ drop (place + length numbers) area)
-
 -- the numbers of the record with a number, of a section of records of one size; the area where none has it
 abbrev pub replacedAt : List ℤ → (at size : ℕ) → ℤ → List ℤ → List ℤ
 replacedAt area at size (pos zero) numbers = area
-replacedAt area at size (pos (suc i)) numbers = replaced area (at + size * i) numbers
+replacedAt area at size (pos (suc i)) numbers = written area (at + size * i) numbers
 replacedAt area at size (negsuc i) numbers = area
 
 -- one record as a store or a package has it
@@ -48,7 +45,7 @@ renewedBy area p (calibrate a) = probeRenewed area p (a .probe)
 renewedBy area p (readStatus probe) = area
 renewedBy area p (measureTool a array place) = toolRenewed (valueRenewed area meansAt (p .memory .means) (a .mv)) p (a .tool)
 renewedBy area p (measureZero a array place) = offsetRenewed area p (a .offset)
-renewedBy area p (load bytes) = replaced area empiricalAt (p .memory .empirical ++ p .memory .means)
+renewedBy area p (load bytes) = written area empiricalAt (p .memory .empirical ++ p .memory .means)
 renewedBy area p (save buffer) = area
 
 unfoldable pub renewed : List ℤ → Call → List ℤ

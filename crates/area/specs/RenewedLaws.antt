@@ -34,8 +34,10 @@ use Rattle.rules.specs.InRangeKept.{left-in-range, at-most}
 use Rattle.rules.specs.Calls.{Call, setEmpirical, setWear, setOffset, calibrate, readStatus, measureTool, measureZero, load, save, rules, refusal, done, step}
 use Rattle.area.specs.Area.{probesAt, empiricalAt, meansAt, toolsAt, offsetsAt, probeNumbers, wearNumbers, offsetNumbers, packed, valueFrom, probeFrom, wearFrom, offsetFrom, store, section, unpacked}
 use Rattle.area.specs.AreaLaws.{ProbeTyped, OffsetTyped, Back, probe-back, values-back, section-front, section-past, together, packed-long, unpack-pack, in-range-typed}
-use Rattle.area.specs.Renewed.{replaced, replacedAt, valueRenewed, toolRenewed, offsetRenewed, renewedBy, renewed, called}
-use Rattle.area.specs.ReplacedLaws.{length-replaced, section-before, section-after, section-within, map-replaced, grows, store-replaced, probe-at}
+use Rattle.lists.specs.Written.{written}
+use Rattle.area.specs.Renewed.{replacedAt, valueRenewed, toolRenewed, offsetRenewed, renewedBy, renewed, called}
+use Rattle.lists.specs.WrittenLaws.{written-length}
+use Rattle.area.specs.SectionLaws.{front-rest, section-before, section-after, section-within, map-written, grows, store-written, probe-at}
 use Rattle.area.specs.RecordLaws.{named, named-below, probes-long, tools-long, offsets-long, section-long, values-long, empirical-long, means-long, probe-put, wear-put, offset-put, value-put}
 
 module _ (zs : List ℤ) (whole : length zs ≡ 137) where
@@ -44,19 +46,19 @@ module _ (zs : List ℤ) (whole : length zs ≡ 137) where
 
   -- ---- one record, in its own section
   store-within : {A : Type 0} (from : List ℤ → A) (at size count i : ℕ) (xs : List ℤ) → length xs ≡ size → i < count → at + size * count ≤ 137
-      → store from size count (section at (size * count) (replaced zs (at + size * i) xs)) ≡ set (store from size count (section at (size * count) zs)) i (from xs)
+      → store from size count (section at (size * count) (written zs (at + size * i) xs)) ≡ set (store from size count (section at (size * count) zs)) i (from xs)
   store-within from at size count i xs e h k =
       let g = grows size i count h in
       ap (store from size count) (section-within zs at (size * count) (size * i) xs (omega arith) (omega arith))
-      ∙ store-replaced from size count (section at (size * count) zs) i xs e h (omega (arith, section-long zs whole at (size * count) k))
+      ∙ store-written from size count (section at (size * count) zs) i xs e h (omega (arith, section-long zs whole at (size * count) k))
 
   value-within : (at i : ℕ) (z : ℤ) → i < 20 → at + 20 ≤ 137 → valueRange z ≡ true
-      → map valueFrom (section at 20 (replaced zs (at + 1 * i) (z ∷ []))) ≡ set (map valueFrom (section at 20 zs)) i z
+      → map valueFrom (section at 20 (written zs (at + 1 * i) (z ∷ []))) ≡ set (map valueFrom (section at 20 zs)) i z
   value-within at i z h k r =
       let one : 1 * i ≡ i = omega arith in
       rw one
       (ap (map valueFrom) (section-within zs at 20 i (z ∷ []) (omega arith) (omega arith))
-      ∙ map-replaced valueFrom (section at 20 zs) i z (omega (arith, section-long zs whole at 20 k))
+      ∙ map-written valueFrom (section at 20 zs) i z (omega (arith, section-long zs whole at 20 k))
       ∙ ap (set (map valueFrom (section at 20 zs)) i) (nearest-itself (minus 32768) (pos 32767) z r))
 
   probe-left : (n : ℤ) (x : Probe) → probeNumber n ≡ true → Back probeFrom probeNumbers 7 x → unpacked (replacedAt zs probesAt 7 n (probeNumbers x)) ≡ withProbe p n x
@@ -114,7 +116,7 @@ module _ (zs : List ℤ) (whole : length zs ≡ 137) where
   mean-long (pos (suc i)) z e =
       let h : i < 20 = named-below i e in
       let room : 41 + 1 * i + 1 ≤ length zs = omega arith in
-      length-replaced zs (41 + 1 * i) (z ∷ []) room ∙ whole
+      written-length zs (41 + 1 * i) (z ∷ []) room ∙ whole
 
   tool-left : (n : ℤ) (x : Wear) → toolNumber n ≡ true → unpacked (replacedAt zs toolsAt 2 n (wearNumbers x)) ≡ withWear p n x
   unfolding unpacked
@@ -153,7 +155,7 @@ module _ (zs : List ℤ) (whole : length zs ≡ 137) where
   offset-set n x e t =
       ap (λ (y : Offset). unpacked (replacedAt zs offsetsAt 3 n (offsetNumbers y))) (offset-put p n x (offsets-long zs) e) ∙ offset-left n x e t
 
-  block-left : (es ms : List ℤ) → Values es → Values ms → unpacked (replaced zs empiricalAt (es ++ ms)) ≡ withMemory p (record { empirical = es; means = ms })
+  block-left : (es ms : List ℤ) → Values es → Values ms → unpacked (written zs empiricalAt (es ++ ms)) ≡ withMemory p (record { empirical = es; means = ms })
   unfolding unpacked
   block-left es ms e m =
       let xs = es ++ ms in
@@ -164,8 +166,8 @@ module _ (zs : List ℤ) (whole : length zs ≡ 137) where
       let long : length front ≡ 21 = length-take-le 21 zs (omega arith) in
       together (withMemory p (record { empirical = es; means = ms }))
       (ap (store probeFrom 7 3) (section-before zs 21 xs room 0 21 (omega arith)))
-      (ap (map valueFrom) (section-past front (xs ++ rest) 21 0 20 long ∙ ap (section 0 20) (append-assoc es ms rest) ∙ section-front es (ms ++ rest) 20 (e .long)) ∙ values-back es (e .entries))
-      (ap (map valueFrom) (section-past front (xs ++ rest) 21 20 20 long ∙ ap (section 20 20) (append-assoc es ms rest) ∙ section-past es (ms ++ rest) 20 0 20 (e .long) ∙ section-front ms rest 20 (m .long)) ∙ values-back ms (m .entries))
+      (ap (map valueFrom) (ap (section 21 20) (front-rest zs 21 xs) ∙ section-past front (xs ++ rest) 21 0 20 long ∙ ap (section 0 20) (append-assoc es ms rest) ∙ section-front es (ms ++ rest) 20 (e .long)) ∙ values-back es (e .entries))
+      (ap (map valueFrom) (ap (section 41 20) (front-rest zs 21 xs) ∙ section-past front (xs ++ rest) 21 20 20 long ∙ ap (section 20 20) (append-assoc es ms rest) ∙ section-past es (ms ++ rest) 20 0 20 (e .long) ∙ section-front ms rest 20 (m .long)) ∙ values-back ms (m .entries))
       (ap (store wearFrom 2 32) (section-after zs 21 xs room 61 64 (omega arith)))
       (ap (store offsetFrom 3 4) (section-after zs 21 xs room 125 12 (omega arith)))
 

@@ -24,7 +24,7 @@ use Rattle.area.specs.Renewed.{probeRenewed, renewedBy, stored, Left, left, cal
 use Rattle.boundary.specs.Exports.{partCalibrated}
 use Rattle.boundary.specs.ExportLaws.{done-call, refused-call}
 use Rattle.area.specs.LoopLaws.{part-long}
-use Rattle.area.specs.ReplacedLaws.{put-replaced, probe-at, probe-renewed}
+use Rattle.area.specs.SectionLaws.{put-written, probe-at, probe-renewed}
 
 -- ---- the 7 numbers
 module _ (part : List ℤ) (a : Calibration) (at : ℕ) (long : length part ≡ 7) (low : at < 6) (place : placeOf (a .axis) (a .direction) ≡ suc at) where
@@ -84,7 +84,7 @@ module _ (zs : List ℤ) (i : ℕ) (low : i < 3) where
     by-refusal zero e =
         let p = unpacked zs in
         done-call zs right (calibrate a) (sym (direction-done p a passed (ap (λ (x : Probe). found x .refusal) (sym probe-is) ∙ e))) refl
-        (put-replaced zs (probeNumbers (after (probeFrom part))) (7 * i) 7 numbers-long ∙ probe-renewed zs i (after (probeFrom part)) low
+        (put-written zs (probeNumbers (after (probeFrom part))) (7 * i) 7 numbers-long ∙ probe-renewed zs i (after (probeFrom part)) low
         ∙ ap₂ (λ (n : ℤ) (x : Probe). probeRenewed zs (withProbe p n x) n) (sym probe) (ap after probe-is))
     by-refusal (suc n) e =
         let p = unpacked zs in

@@ -8,9 +8,10 @@ use borrow.Author.Needs.{needs}
 use borrow.Author.Tests.{ne-eqb, eq-eqb}
 use Rattle.rules.specs.Block.{words}
 use Rattle.rules.specs.Calls.{load}
-use Rattle.area.specs.Renewed.{replaced, renewedBy}
+use Rattle.lists.specs.Written.{written}
+use Rattle.area.specs.Renewed.{renewedBy}
 use Rattle.boundary.specs.ExportLaws.{wrong-call, call-done, call-refused}
-use Rattle.area.specs.ReplacedLaws.{put-replaced}
+use Rattle.area.specs.SectionLaws.{put-written}
 use Rattle.boundary.proofs.mezhtolik_load.Statement.{statement}
 use Rattle.boundary.proofs.mezhtolik_load.Tie as tie
 
@@ -64,7 +65,7 @@ returns-3 c =
     let values = w .write-block .last .1 .0 in
     let long = w .write-block .kept .1 .0 ∙ write-block-requires (w .before) (s .κs) .1 in
     call-done zs (e .before .if1 .left) (load bytes) (rw (eq-eqb (length bytes) 80 (e .if2 .left)))
-    (put-replaced zs values 21 40 long ∙ ap (λ (ys : List ℤ). replaced zs 21 ys) (w .write-block .ensures ∙ halves bytes (e .if2 .left)))
+    (put-written zs values 21 40 long ∙ ap (λ (ys : List ℤ). written zs 21 ys) (w .write-block .ensures ∙ halves bytes (e .if2 .left)))
 
 pub mezhtolik-load-spec : {M : Type 1} → statement M
 mezhtolik-load-spec =

@@ -8,7 +8,7 @@ use borrow.Author.Needs.{needs}
 use Rattle.signed.specs.CodeLaws.{from-one, in-store}
 use Rattle.rules.specs.Stores.{probeOf}
 use Rattle.area.specs.Area.{probeFrom, unpacked}
-use Rattle.area.specs.ReplacedLaws.{record-at}
+use Rattle.area.specs.SectionLaws.{record-at}
 use Rattle.area.proofs.read.probe_at.Statement.{statement}
 use Rattle.area.proofs.read.probe_at.Tie as tie
 

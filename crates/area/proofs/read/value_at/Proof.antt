@@ -12,7 +12,7 @@ use borrow.Author.Needs.{needs}
 use Rattle.signed.specs.CodeLaws.{read-as, from-one, in-store}
 use Rattle.rules.specs.Stores.{pick, valueNumber}
 use Rattle.area.specs.Area.{valueFrom, section}
-use Rattle.area.specs.ReplacedLaws.{value-at}
+use Rattle.area.specs.SectionLaws.{value-at}
 use Rattle.area.proofs.Laws.{names}
 use Rattle.area.proofs.read.value_at.Statement.{statement}
 use Rattle.area.proofs.read.value_at.Tie as tie

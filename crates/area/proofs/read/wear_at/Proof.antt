@@ -7,7 +7,7 @@ use borrow.Author.Needs.{needs}
 use Rattle.signed.specs.CodeLaws.{from-one, in-store}
 use Rattle.rules.specs.Stores.{wearOf}
 use Rattle.area.specs.Area.{wearFrom, unpacked}
-use Rattle.area.specs.ReplacedLaws.{record-at}
+use Rattle.area.specs.SectionLaws.{record-at}
 use Rattle.area.proofs.read.wear_at.Statement.{statement}
 use Rattle.area.proofs.read.wear_at.Tie as tie
 

@@ -7,7 +7,7 @@ use borrow.Author.Needs.{needs}
 use Rattle.signed.specs.CodeLaws.{from-one, in-store}
 use Rattle.area.specs.Area.{offsetsAt, offsetNumbers}
 use Rattle.area.specs.Renewed.{replacedAt}
-use Rattle.area.specs.ReplacedLaws.{put-replaced}
+use Rattle.area.specs.SectionLaws.{put-written}
 use Rattle.area.proofs.write.put_offset.Statement.{statement}
 use Rattle.area.proofs.write.put_offset.Tie as tie
 
@@ -53,7 +53,7 @@ returns c =
     let i = w .before .before in
     let s = i .before in
     let zs = s .args .area .now in
-    put-replaced zs (w .write-offset .last .1 .0) (125 + 3 * i .index .result) 3 (w .write-offset .kept .1 .0 ∙ write-offset-requires (w .before) (s .κs))
+    put-written zs (w .write-offset .last .1 .0) (125 + 3 * i .index .result) 3 (w .write-offset .kept .1 .0 ∙ write-offset-requires (w .before) (s .κs))
     ∙ rw (w .write-offset .ensures) (ap (λ (n : ℤ). replacedAt zs offsetsAt 3 n (offsetNumbers (s .args .x))) (sym (number i)))
 
 pub put-offset-spec : {M : Type 1} → statement M

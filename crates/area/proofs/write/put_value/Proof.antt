@@ -10,8 +10,9 @@ use mir.Facts.{toZ-ofZ}
 use borrow.Author.Needs.{needs}
 use Rattle.signed.specs.CodeLaws.{from-one, in-store}
 use Rattle.rules.specs.Stores.{valueNumber}
-use Rattle.area.specs.Renewed.{replaced, replacedAt}
-use Rattle.area.specs.ReplacedLaws.{set-replaced}
+use Rattle.lists.specs.Written.{written}
+use Rattle.area.specs.Renewed.{replacedAt}
+use Rattle.lists.specs.WrittenLaws.{written-set}
 use Rattle.area.proofs.Laws.{names, Cast32, cast32}
 use Rattle.area.proofs.write.put_value.Statement.{statement}
 use Rattle.area.proofs.write.put_value.Tie as tie
@@ -54,8 +55,8 @@ returns c =
     let number : s .args .n ≡ pos (suc i) = sym (toZ-ofZ (s .fits .n)) ∙ c .index .ensures in
     let one : i ≡ 1 * i = omega arith in
     rw (wide s .value)
-    (set-replaced zs (s .args .at + i) (s .args .v) (slice-set-from-area c)
-    ∙ ap (λ (k : ℕ). replaced zs (s .args .at + k) (s .args .v ∷ [])) one
+    (written-set zs (s .args .at + i) (s .args .v) (slice-set-from-area c)
+    ∙ ap (λ (k : ℕ). written zs (s .args .at + k) (s .args .v ∷ [])) one
     ∙ ap (left s) (sym number))
 
 returns-2 : tie.Need-returns-2

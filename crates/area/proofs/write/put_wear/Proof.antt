@@ -7,7 +7,7 @@ use borrow.Author.Needs.{needs}
 use Rattle.signed.specs.CodeLaws.{from-one, in-store}
 use Rattle.area.specs.Area.{toolsAt, wearNumbers}
 use Rattle.area.specs.Renewed.{replacedAt}
-use Rattle.area.specs.ReplacedLaws.{put-replaced}
+use Rattle.area.specs.SectionLaws.{put-written}
 use Rattle.area.proofs.write.put_wear.Statement.{statement}
 use Rattle.area.proofs.write.put_wear.Tie as tie
 
@@ -53,7 +53,7 @@ returns c =
     let i = w .before .before in
     let s = i .before in
     let zs = s .args .area .now in
-    put-replaced zs (w .write-wear .last .1 .0) (61 + 2 * i .index .result) 2 (w .write-wear .kept .1 .0 ∙ write-wear-requires (w .before) (s .κs))
+    put-written zs (w .write-wear .last .1 .0) (61 + 2 * i .index .result) 2 (w .write-wear .kept .1 .0 ∙ write-wear-requires (w .before) (s .κs))
     ∙ rw (w .write-wear .ensures) (ap (λ (n : ℤ). replacedAt zs toolsAt 2 n (wearNumbers (s .args .x))) (sym (number i)))
 
 pub put-wear-spec : {M : Type 1} → statement M

@@ -4,27 +4,26 @@ use mathlib.Core.Path.{_≡_, refl, sym, ap, subst, _∙_}
 use mathlib.Core.List.{List, [], _∷_, _++_, append-assoc, map}
 use Prim.Native.Nat.{ℕ, zero, suc, _+_, _-_, _*_, _≤_, _<_}
 use native.Mathlib.Nat.{not-suc-le-zero, le-of-suc-le-suc}
-use native.Mathlib.Numerals.{add-one}
 use native.Mathlib.Omega.{arith}
 use lib.IntN.{ℤ, pos}
 use lib.ListN.{length, getD, set, take, drop, length-append, length-drop, List·getD-map}
-use lib.Seq.{set-split, getD-set-same, getD-take, getD-drop, take-take, take-add, take-at, drop-at, take-append-le, take-append-add, drop-append-le, drop-drop, length-take-le}
+use lib.Seq.{getD-set-same, getD-take, getD-drop, take-take, take-add, take-at, drop-at, take-append-le, take-append-add, drop-append-le, drop-drop, length-take-le}
 use borrow.Rule.Slice.PartMut.{putMid}
 use Rattle.signed.specs.Ranges.{minus}
 use Rattle.signed.specs.RangeLaws.{nearest-itself}
+use Rattle.lists.specs.Written.{written}
+use Rattle.lists.specs.WrittenLaws.{written-drop, written-set}
 use Rattle.package.specs.declared.Probe.{Probe}
 use Rattle.rules.specs.Stores.{probeOf, withProbe}
 use Rattle.area.specs.Area.{probeNumbers, valueFrom, probeFrom, store, section, unpacked}
 use Rattle.area.specs.LoopLaws.{store-length, store-at}
-use Rattle.area.specs.Renewed.{replaced, probeRenewed}
+use Rattle.area.specs.Renewed.{probeRenewed}
 
-pub set-replaced : (zs : List ℤ) (i : ℕ) (z : ℤ) → i < length zs → set zs i z ≡ replaced zs i (z ∷ [])
-set-replaced zs i z h = rw (add-one i) (set-split zs i z h)
-
-pub put-replaced : (zs ys : List ℤ) (at k : ℕ) → length ys ≡ k → putMid at (at + k - at) zs ys ≡ replaced zs at ys
-put-replaced zs ys at k h =
+pub put-written : (zs ys : List ℤ) (at k : ℕ) → length ys ≡ k → putMid at (at + k - at) zs ys ≡ written zs at ys
+unfolding written
+put-written zs ys at k h =
     let e : at + k - at ≡ k = omega arith in
-    rw (e, h, drop-drop k at zs)
+    rw (e, h, drop-drop k at zs) (sym (append-assoc (take at zs) ys (drop (at + k) zs)))
 
 -- a part of a part
 part-of : (zs : List ℤ) (at k n : ℕ) → at + k ≤ n → take k (drop at (take n zs)) ≡ take k (drop at zs)
@@ -66,7 +65,7 @@ unfolding unpacked
 probe-at zs i h = record-at probeFrom 7 zs 0 3 i (7 * i) (record { triggers = []; status = 0 }) (omega arith) h
 
 pub probe-renewed : (zs : List ℤ) (i : ℕ) (x : Probe) → i < 3 →
-    replaced zs (7 * i) (probeNumbers x) ≡ probeRenewed zs (withProbe (unpacked zs) (pos (suc i)) x) (pos (suc i))
+    written zs (7 * i) (probeNumbers x) ≡ probeRenewed zs (withProbe (unpacked zs) (pos (suc i)) x) (pos (suc i))
 unfolding unpacked
 probe-renewed zs i x h =
     let e : 0 + 7 * i ≡ 7 * i = omega arith in
@@ -77,64 +76,59 @@ probe-renewed zs i x h =
 drop-take : (zs : List ℤ) (a n : ℕ) → a ≤ length zs → drop a (take (a + n) zs) ≡ take n (drop a zs)
 drop-take zs a n h = rw (take-add a n zs) (drop-at (take a zs) (take n (drop a zs)) a (length-take-le a zs h))
 
+-- the front of the area, then the new numbers with the rest
+pub front-rest : (zs : List ℤ) (k : ℕ) (xs : List ℤ) → written zs k xs ≡ take k zs ++ (xs ++ drop (k + length xs) zs)
+unfolding written
+front-rest zs k xs = append-assoc (take k zs) xs (drop (k + length xs) zs)
+
 module _ (zs : List ℤ) (k : ℕ) (xs : List ℤ) (fits : k + length xs ≤ length zs) where
-  front-long : length (take k zs ++ xs) ≡ k + length xs
-  front-long = length-append (take k zs) xs ∙ rw (length-take-le k zs (omega arith))
-
-  two-parts : replaced zs k xs ≡ (take k zs ++ xs) ++ drop (k + length xs) zs
-  two-parts = sym (append-assoc (take k zs) xs (drop (k + length xs) zs))
-
-  pub length-replaced : length (replaced zs k xs) ≡ length zs
-  length-replaced = rw two-parts (length-append (take k zs ++ xs) (drop (k + length xs) zs) ∙ simp length-drop (omega (arith, front-long)))
-
   -- before them, and after them
-  pub section-before : (at n : ℕ) → at + n ≤ k → section at n (replaced zs k xs) ≡ section at n zs
+  pub section-before : (at n : ℕ) → at + n ≤ k → section at n (written zs k xs) ≡ section at n zs
   section-before at n h =
       let front = take k zs in
       let rest = xs ++ drop (k + length xs) zs in
       let long : length front ≡ k = length-take-le k zs (omega arith) in
       let left : n ≤ length (drop at front) = simp length-drop (omega arith) in
-      ap (take n) (drop-append-le at front rest (omega arith)) ∙ take-append-le n (drop at front) rest left ∙ part-of zs at n k h
+      ap (section at n) (front-rest zs k xs)
+      ∙ ap (take n) (drop-append-le at front rest (omega arith)) ∙ take-append-le n (drop at front) rest left ∙ part-of zs at n k h
 
-  past : drop (k + length xs) (replaced zs k xs) ≡ drop (k + length xs) zs
-  past = ap (drop (k + length xs)) two-parts ∙ drop-at (take k zs ++ xs) (drop (k + length xs) zs) (k + length xs) front-long
-
-  pub section-after : (at n : ℕ) → k + length xs ≤ at → section at n (replaced zs k xs) ≡ section at n zs
+  pub section-after : (at n : ℕ) → k + length xs ≤ at → section at n (written zs k xs) ≡ section at n zs
   section-after at n h =
       let m = k + length xs in
       let e : m + (at - m) ≡ at = omega arith in
-      subst (λ (a : ℕ). section a n (replaced zs k xs) ≡ section a n zs) e
-      (ap (take n) (sym (drop-drop (at - m) m (replaced zs k xs)) ∙ ap (drop (at - m)) past ∙ drop-drop (at - m) m zs))
+      subst (λ (a : ℕ). section a n (written zs k xs) ≡ section a n zs) e
+      (ap (take n) (sym (drop-drop (at - m) m (written zs k xs)) ∙ ap (drop (at - m)) (written-drop zs k xs fits) ∙ drop-drop (at - m) m zs))
 
 -- within a section
-drop-replaced : (zs : List ℤ) (at j : ℕ) (xs : List ℤ) → at + j + length xs ≤ length zs → drop at (replaced zs (at + j) xs) ≡ replaced (drop at zs) j xs
-drop-replaced zs at j xs h =
+drop-written : (zs : List ℤ) (at j : ℕ) (xs : List ℤ) → at + j + length xs ≤ length zs → drop at (written zs (at + j) xs) ≡ written (drop at zs) j xs
+drop-written zs at j xs h =
     let front = take (at + j) zs in
     let long : length front ≡ at + j = length-take-le (at + j) zs (omega arith) in
     let e : at + j + length xs ≡ at + (j + length xs) = omega arith in
-    drop-append-le at front (xs ++ drop (at + j + length xs) zs) (omega arith)
-    ∙ rw (drop-take zs at j (omega arith), e, drop-drop (j + length xs) at zs)
+    ap (drop at) (front-rest zs (at + j) xs)
+    ∙ drop-append-le at front (xs ++ drop (at + j + length xs) zs) (omega arith)
+    ∙ rw (drop-take zs at j (omega arith), e, ← drop-drop (j + length xs) at zs) (sym (front-rest (drop at zs) j xs))
 
-front-replaced : (zs : List ℤ) (j r : ℕ) (xs : List ℤ) → j + length xs + r ≤ length zs
-    → take (j + length xs + r) (replaced zs j xs) ≡ replaced (take (j + length xs + r) zs) j xs
-front-replaced zs j r xs h =
+front-written : (zs : List ℤ) (j r : ℕ) (xs : List ℤ) → j + length xs + r ≤ length zs
+    → take (j + length xs + r) (written zs j xs) ≡ written (take (j + length xs + r) zs) j xs
+unfolding written
+front-written zs j r xs h =
     let m = j + length xs in
     let front = take j zs ++ xs in
-    let cut : take (m + r) (front ++ drop m zs) ≡ front ++ take r (drop m zs) = rw (front-long zs j xs (omega arith)) at (take-append-add front (drop m zs) r) in
-    ap (take (m + r)) (two-parts zs j xs (omega arith)) ∙ cut
-    ∙ append-assoc (take j zs) xs (take r (drop m zs))
-    ∙ rw (take-take j (m + r) zs (omega arith), drop-take zs m r (omega arith))
+    let long : length front ≡ m = length-append (take j zs) xs ∙ rw (length-take-le j zs (omega arith)) in
+    let cut : take (m + r) (front ++ drop m zs) ≡ front ++ take r (drop m zs) = rw long at (take-append-add front (drop m zs) r) in
+    cut ∙ rw (take-take j (m + r) zs (omega arith), drop-take zs m r (omega arith))
 
-take-replaced : (zs : List ℤ) (n j : ℕ) (xs : List ℤ) → j + length xs ≤ n → n ≤ length zs → take n (replaced zs j xs) ≡ replaced (take n zs) j xs
-take-replaced zs n j xs h k =
+take-written : (zs : List ℤ) (n j : ℕ) (xs : List ℤ) → j + length xs ≤ n → n ≤ length zs → take n (written zs j xs) ≡ written (take n zs) j xs
+take-written zs n j xs h k =
     let m = j + length xs in
     let e : m + (n - m) ≡ n = omega arith in
-    subst (λ (a : ℕ). take a (replaced zs j xs) ≡ replaced (take a zs) j xs) e (front-replaced zs j (n - m) xs (omega arith))
+    subst (λ (a : ℕ). take a (written zs j xs) ≡ written (take a zs) j xs) e (front-written zs j (n - m) xs (omega arith))
 
 pub section-within : (zs : List ℤ) (at n j : ℕ) (xs : List ℤ) → j + length xs ≤ n → at + n ≤ length zs
-    → section at n (replaced zs (at + j) xs) ≡ replaced (section at n zs) j xs
+    → section at n (written zs (at + j) xs) ≡ written (section at n zs) j xs
 section-within zs at n j xs h k =
-    ap (take n) (drop-replaced zs at j xs (omega arith)) ∙ take-replaced (drop at zs) n j xs h (simp length-drop (omega arith))
+    ap (take n) (drop-written zs at j xs (omega arith)) ∙ take-written (drop at zs) n j xs h (simp length-drop (omega arith))
 
 -- ---- a value of a list, and a record of a store
 map-set : {A B : Type 0} (f : A → B) (xs : List A) (i : ℕ) (x : A) → map f (set xs i x) ≡ set (map f xs) i (f x)
@@ -142,19 +136,19 @@ map-set f [] i x = refl
 map-set f (y ∷ ys) zero x = refl
 map-set f (y ∷ ys) (suc i) x = ap (λ zs. f y ∷ zs) (map-set f ys i x)
 
-pub map-replaced : {B : Type 0} (f : ℤ → B) (zs : List ℤ) (i : ℕ) (z : ℤ) → i < length zs → map f (replaced zs i (z ∷ [])) ≡ set (map f zs) i (f z)
-map-replaced f zs i z h = rw (← set-replaced zs i z h) (map-set f zs i z)
+pub map-written : {B : Type 0} (f : ℤ → B) (zs : List ℤ) (i : ℕ) (z : ℤ) → i < length zs → map f (written zs i (z ∷ [])) ≡ set (map f zs) i (f z)
+map-written f zs i z h = rw (← written-set zs i z h) (map-set f zs i z)
 
 module _ {A : Type 0} (from : List ℤ → A) (size : ℕ) where
-  pub store-replaced : (count : ℕ) (zs : List ℤ) (i : ℕ) (xs : List ℤ) → length xs ≡ size → i < count → size * count ≤ length zs
-      → store from size count (replaced zs (size * i) xs) ≡ set (store from size count zs) i (from xs)
-  unfolding store
-  store-replaced zero zs i xs e h k = absurd (not-suc-le-zero h)
-  store-replaced (suc count) zs zero xs e h k =
+  pub store-written : (count : ℕ) (zs : List ℤ) (i : ℕ) (xs : List ℤ) → length xs ≡ size → i < count → size * count ≤ length zs
+      → store from size count (written zs (size * i) xs) ≡ set (store from size count zs) i (from xs)
+  unfolding store written
+  store-written zero zs i xs e h k = absurd (not-suc-le-zero h)
+  store-written (suc count) zs zero xs e h k =
       let z : size * 0 ≡ 0 = omega arith in
       let s : 0 + length xs ≡ size = omega arith in
       rw (z, s, take-at xs (drop size zs) size e, drop-at xs (drop size zs) size e)
-  store-replaced (suc count) zs (suc i) xs e h k =
+  store-written (suc count) zs (suc i) xs e h k =
       let z : size * suc i ≡ size + size * i = omega arith in
       let n : size * suc count ≡ size + size * count = omega arith in
       let small : size * i + size ≤ size * count = grows size i count (le-of-suc-le-suc h) in
@@ -162,6 +156,6 @@ module _ {A : Type 0} (from : List ℤ → A) (size : ℕ) where
       rw (
         z,
         section-before zs (size + size * i) xs room 0 size (omega arith),
-        drop-replaced zs size (size * i) xs room,
-        store-replaced count (drop size zs) i xs e (le-of-suc-le-suc h) (simp length-drop (omega arith)),
+        drop-written zs size (size * i) xs room,
+        store-written count (drop size zs) i xs e (le-of-suc-le-suc h) (simp length-drop (omega arith)),
       )
