@@ -1,11 +1,10 @@
 -- Numbers of the area and of its values as the code holds them.
 use mathlib.Core.Path.{_≡_, refl, _∙_}
 use mathlib.Core.Bool.{true}
-use Prim.Native.Nat.{zero, suc, _<_, _^_}
+use Prim.Native.Nat.{zero, suc}
 use native.Mathlib.Omega.{arith}
 use lib.IntN.{ℤ, pos, negsuc}
-use lib.Signed.{mag}
-use mir.Syntax.{w16, w32, w64}
+use mir.Syntax.{w32, w64}
 use mir.Val.{SFits, toZ, ofZ}
 use mir.Facts.{toZ-ofZ, sfits-widen}
 use borrow.Author.Tests.{le-leb}
@@ -32,14 +31,3 @@ module _ {v : ℤ} (f : SFits w32 v) where
 
     pub nearest-in-range : within lo hi r ≡ true
     nearest-in-range = rw nearest-is (nearest-within lo hi v l h)
-
--- a mean or empirical value as a number of the area
-pub record Cast32 (z : ℤ) : Type 0 where
-  pub fits : SFits w32 (toZ w16 (ofZ w16 z))
-  pub value : toZ w32 (ofZ w32 (toZ w16 (ofZ w16 z))) ≡ z
-
-pub cast32 : {z : ℤ} → mag z < 2 ^ 15 → Cast32 z
-cast32 {z} h =
-    let f : SFits w16 z = record { sfits = h } in
-    let g : SFits w32 z = sfits-widen tt f in
-    record { fits = rw (toZ-ofZ f) g; value = rw (toZ-ofZ f) (toZ-ofZ g) }

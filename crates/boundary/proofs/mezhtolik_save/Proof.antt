@@ -1,4 +1,4 @@
-use Rattle.rules.specs.Block.{saved}
+use Rattle.rules.specs.Block.{savedWith}
 use Rattle.rules.specs.Calls.{refusal}
 use Rattle.boundary.specs.ExportLaws.{wrong-save, right-save}
 use borrow.Author.Needs.{needs}
@@ -20,7 +20,7 @@ same-length : tie.Need-same-length
 same-length c = search needs
 
 returns-2 : tie.Need-returns-2
-unfolding refusal saved
+unfolding refusal savedWith
 returns-2 c =
     let w = c .before .before in
     let u = w .before .before in

@@ -4,24 +4,24 @@ use mathlib.Core.List.{List, [], _∷_}
 use Prim.Native.Nat.{ℕ, suc, _+_, _*_, _<_}
 use native.Mathlib.Omega.{arith}
 use lib.IntN.{ℤ, pos}
-use mir.Syntax.{w64}
+use mir.Syntax.{w16, w32, w64}
 use mir.Val.{toZ}
 use mir.Facts.{toZ-ofZ}
 use borrow.Author.Needs.{needs}
-use Rattle.signed.specs.CodeLaws.{from-one, in-store}
+use Rattle.signed.specs.CodeLaws.{Widened, widened, from-one, in-store}
 use Rattle.rules.specs.Stores.{valueNumber}
 use Rattle.lists.specs.Written.{written}
 use Rattle.area.specs.Renewed.{replacedAt}
 use Rattle.lists.specs.WrittenLaws.{written-set}
-use Rattle.area.proofs.Laws.{names, Cast32, cast32}
+use Rattle.area.proofs.Laws.{names}
 use Rattle.area.proofs.write.put_value.Statement.{statement}
 use Rattle.area.proofs.write.put_value.Tie as tie
 
 named : (c : tie.Then1) → valueNumber (c .before .args .n) ≡ true
 named c = names (c .before .args .n) (c .before .pre .1) (c .if1 .taken)
 
-wide : (s : tie.Start) → Cast32 (s .args .v)
-wide s = cast32 (s .fits .v .sfits)
+wide : (s : tie.Start) → Widened w16 w32 (s .args .v)
+wide s = widened w16 w32 _ tt (s .fits .v .sfits)
 
 cast-area : tie.Need-cast-area
 cast-area c = wide (c .before) .fits

@@ -4,10 +4,11 @@ use Prim.Native.Nat.{_≤_, _-_}
 use native.Mathlib.Omega.{arith}
 use lib.IntN.{pos}
 use lib.ListN.{length, drop-of-length-le}
+use mir.Syntax.{w16, w32}
 use Rattle.lists.specs.Copied.{copied, copied-suc, copied-length, copied-all}
 use Rattle.rules.specs.Block.{words}
 use Rattle.rules.specs.BlockLaws.{length-words, words-at}
-use Rattle.area.proofs.Laws.{Cast32, cast32}
+use Rattle.signed.specs.CodeLaws.{Widened, widened}
 use Rattle.area.proofs.write.write_block.Statement.{statement}
 use Rattle.area.proofs.write.write_block.Tie as tie
 
@@ -46,8 +47,8 @@ shared-slice-read-decode-2 c = omega arith
 decode-requires : tie.Need-decode-requires Inv-loop μ-loop
 decode-requires c κs = tt
 
-wide : (c : tie.After-decode Inv-loop μ-loop) → Cast32 (c .decode .result)
-wide c = cast32 (c .decode .ok)
+wide : (c : tie.After-decode Inv-loop μ-loop) → Widened w16 w32 (c .decode .result)
+wide c = widened w16 w32 _ tt (c .decode .ok)
 
 cast-part : tie.Need-cast-part Inv-loop μ-loop
 cast-part c = wide c .fits

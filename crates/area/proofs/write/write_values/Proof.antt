@@ -4,9 +4,10 @@ use Prim.Native.Nat.{_≤_, _-_}
 use native.Mathlib.Omega.{arith}
 use lib.IntN.{pos}
 use lib.ListN.{length, getD, drop-of-length-le}
+use mir.Syntax.{w16, w32}
 use borrow.Author.Needs.{needs}
 use Rattle.lists.specs.Copied.{copied, copied-suc, copied-length, copied-all}
-use Rattle.area.proofs.Laws.{Cast32, cast32}
+use Rattle.signed.specs.CodeLaws.{Widened, widened}
 use Rattle.area.proofs.write.write_values.Statement.{statement}
 use Rattle.area.proofs.write.write_values.Tie as tie
 
@@ -31,8 +32,8 @@ mul-v c = omega arith
 array-copy-out-v : tie.Need-array-copy-out-v Inv-loop μ-loop
 array-copy-out-v c = omega arith
 
-wide : (c : tie.After-v Inv-loop μ-loop) → Cast32 (getD (c .before .before .before .args .t1) (c .before .before .loop .i) (pos 0))
-wide c = cast32 (c .v .given)
+wide : (c : tie.After-v Inv-loop μ-loop) → Widened w16 w32 (getD (c .before .before .before .args .t1) (c .before .before .loop .i) (pos 0))
+wide c = widened w16 w32 _ tt (c .v .given)
 
 cast-part : tie.Need-cast-part Inv-loop μ-loop
 cast-part c = wide c .fits
