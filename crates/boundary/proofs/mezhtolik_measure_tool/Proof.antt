@@ -13,7 +13,7 @@ use Rattle.package.specs.declared.Package.{Package}
 use Rattle.package.specs.declared.ToolMeasurement.{ToolMeasurement}
 use Rattle.package.specs.declared.Measured.{Measured}
 use Rattle.rules.specs.Refusals.{first}
-use Rattle.rules.specs.Results.{written}
+use Rattle.lists.specs.Written.{written}
 use Rattle.rules.specs.Tool.{toolArguments}
 use Rattle.rules.specs.Measuring.{toolMeasured, toolArray}
 use Rattle.rules.specs.Calls.{Call, measureTool, refusal, step}

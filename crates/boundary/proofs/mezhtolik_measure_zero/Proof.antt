@@ -13,7 +13,7 @@ use Rattle.package.specs.declared.Package.{Package}
 use Rattle.package.specs.declared.ZeroMeasurement.{ZeroMeasurement}
 use Rattle.package.specs.declared.Measured.{Measured}
 use Rattle.rules.specs.Refusals.{first}
-use Rattle.rules.specs.Results.{written}
+use Rattle.lists.specs.Written.{written}
 use Rattle.rules.specs.Zero.{zeroArguments}
 use Rattle.rules.specs.Measuring.{zeroMeasured, zeroArray}
 use Rattle.rules.specs.Calls.{Call, measureZero, refusal, step}

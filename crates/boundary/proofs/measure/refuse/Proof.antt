@@ -2,7 +2,7 @@ use mathlib.Core.Path.{ap, _∙_}
 use mathlib.Core.List.{List}
 use lib.IntN.{ℤ}
 use borrow.Author.Needs.{needs}
-use Rattle.rules.specs.Results.{written}
+use Rattle.lists.specs.Written.{written}
 use Rattle.boundary.proofs.measure.refuse.Statement.{statement}
 use Rattle.boundary.proofs.measure.refuse.Tie as tie
 
