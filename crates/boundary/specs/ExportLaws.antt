@@ -9,12 +9,11 @@ use lib.IntN.{ℤ}
 use lib.ListN.{length}
 use borrow.Author.Tests.{ne-eqb, eq-eqb}
 use Rattle.package.specs.Fresh.{freshPackage}
-use Rattle.package.specs.declared.Answer.{Answer}
 use Rattle.package.specs.declared.Measured.{Measured}
 use Rattle.rules.specs.Block.{saved}
 use Rattle.rules.specs.Status.{statusRead}
 use Rattle.rules.specs.Refusals.{first}
-use Rattle.rules.specs.Calls.{Call, save, rules, refusal, done, step, answered}
+use Rattle.rules.specs.Calls.{Call, save, rules, refusal, done, step}
 use Rattle.jobs.specs.Jobs.{jobRan, jobOutput}
 use Rattle.jobs.specs.declared.Ran.{Ran}
 use Rattle.boundary.specs.declared.Decision.{Decision}
@@ -55,21 +54,7 @@ module _ (area : List ℤ) (right : length area ≡ 137) where
   whole : wholeArea area ≡ true
   whole = eq-eqb (length area) 137 right
 
-  -- a call that is done, and one that is refused
-  none-refuses : (c : Call) {a : Answer} → a ≡ answered (unpacked area) c → a .refusal ≡ 0 → refusal (unpacked area) c ≡ 0
-  unfolding answered
-  none-refuses c e z = rw e at z
-
-  pub done-call : (c : Call) {a : Answer} {after : List ℤ} → a ≡ answered (unpacked area) c → a .refusal ≡ 0
-      → after ≡ renewedBy area (a .after) c → left (a .refusal) after ≡ called area c
-  unfolding called answered step renewed
-  done-call c e z h = rw (whole, h, e, none-refuses c e z)
-
-  pub refused-call : (c : Call) {a : Answer} → a ≡ answered (unpacked area) c → (a .refusal ≡ 0 → ⊥) → left (a .refusal) area ≡ called area c
-  unfolding called answered
-  refused-call c e n = rw (whole, e, ne-eqb (refusal (unpacked area) c) 0 (rw e at n))
-
-  -- the same by the number that the rules give
+  -- a call that is done, and one that is refused, by the number that the rules give
   pub call-done : (c : Call) {after : List ℤ} → first (rules (unpacked area) c) ≡ 0 → after ≡ renewedBy area (done (unpacked area) c) c → left 0 after ≡ called area c
   unfolding called refusal renewed
   call-done c z h = rw (whole, h, z)
