@@ -8,6 +8,7 @@ use lib.Dec.{eqb, leb}
 use lib.IntN.{ℤ}
 use lib.ListN.{length}
 use borrow.Author.Tests.{ne-eqb, eq-eqb}
+use Rattle.package.specs.declared.Package.{Package}
 use Rattle.package.specs.declared.Measured.{Measured}
 use Rattle.rules.specs.Refusals.{Rule, first}
 use Rattle.rules.specs.Results.{refusedResults, written}
@@ -20,6 +21,12 @@ use Rattle.area.specs.Renewed.{renewedBy, renewed, stored}
 use Rattle.boundary.specs.declared.Decision.{Decision}
 use Rattle.boundary.specs.Exports.{Reply, reply, decided, undecided, replied}
 use Rattle.boundary.specs.ExportLaws.{not-whole, whole}
+
+-- the area after a call that leaves the package q where it is done, and p where it is refused
+pub left-stored : (area new : List ℤ) (p q : Package) (c : Call) → renewedBy area q c ≡ new
+    → (n : ℕ) → stored n new area ≡ stored n (renewedBy area (cond (eqb n 0) q p) c) area
+left-stored area new p q c e zero = sym e
+left-stored area new p q c e (suc n) = rw (ne-eqb (suc n) 0 (λ z. omega arith))
 
 -- a measurement by numbers on the records of an area: how many numbers it takes, the rules of its arguments, what it comes to, what it answers and the array
 -- after it
@@ -46,18 +53,15 @@ module _ {area numbers results : List ℤ} {place : ℕ} (t : Measurement area n
     pub wrong-arguments : (length numbers ≡ t .count → ⊥) → {r : Decision} → r ≡ undecided 101 → reply r area results ≡ wanted
     wrong-arguments n e = rw (e, whole area right, ne-eqb (length numbers) (t .count) n)
 
-    -- the area after it, done or refused
-    area-after : (n : ℕ) → let q = done (unpacked area) (t .call) in stored n (renewedBy area (cond (eqb n 0) q (unpacked area)) (t .call)) area ≡ stored n (renewedBy area q (t .call)) area
-    area-after zero = refl
-    area-after (suc n) = rw (ne-eqb (suc n) 0 (λ q. omega arith))
-
     module _ (enough : length numbers ≡ t .count) where
       found-reply : {found : Measured} {after new : List ℤ} → (found ≡ t .measured) × (after ≡ t .array)
           → new ≡ stored (found .refusal) (renewedBy area (found .after) (t .call)) area → reply (decided found) new after ≡ wanted
       unfolding step renewed
       found-reply e h =
           let m = t .measured in
-          let new : stored (m .refusal) (renewedBy area (m .after) (t .call)) area ≡ stored (m .refusal) (renewed area (t .call)) area = rw (t .answered .1, t .answered .0) (area-after (refusal (unpacked area) (t .call))) in
+          let p = unpacked area in
+          let new : stored (m .refusal) (renewedBy area (m .after) (t .call)) area ≡ stored (m .refusal) (renewed area (t .call)) area =
+          rw (t .answered .1, t .answered .0) (sym (left-stored area (renewed area (t .call)) p (done p (t .call)) (t .call) refl (refusal p (t .call)))) in
           rw (h, e .0, e .1, whole area right, eq-eqb (length numbers) (t .count) enough) (ap (λ (zs : List ℤ). reply (decided m) zs (t .array)) new)
 
       pub no-room : leb (place + 42) (length results) ≡ false → {r : Decision} → r ≡ undecided 1 → reply r area results ≡ wanted
