@@ -1,30 +1,25 @@
 -- An exported call whose area has not 137 numbers, and one whose area holds records: what it answers and leaves.
-use mathlib.Core.Path.{_≡_, refl, ap}
-use mathlib.Core.Bool.{true, false, cond}
+use mathlib.Core.Path.{_≡_}
+use mathlib.Core.Bool.{true, false}
 use mathlib.Core.List.{List}
-use Prim.Native.Nat.{ℕ, zero, suc}
-use native.Mathlib.Omega.{arith}
-use lib.Dec.{eqb}
+use Prim.Native.Nat.{ℕ}
 use lib.IntN.{ℤ}
 use lib.ListN.{length}
 use borrow.Author.Tests.{ne-eqb, eq-eqb}
 use Rattle.package.specs.Fresh.{freshPackage}
-use Rattle.package.specs.declared.Answer.{Answer}
-use Rattle.package.specs.declared.Measured.{Measured}
 use Rattle.rules.specs.Block.{saved}
 use Rattle.rules.specs.Status.{statusRead}
 use Rattle.rules.specs.Refusals.{first}
-use Rattle.rules.specs.Calls.{Call, save, rules, refusal, done, step, answered}
+use Rattle.rules.specs.Calls.{Call, save, rules, refusal, done}
 use Rattle.jobs.specs.Jobs.{jobRan, jobOutput}
 use Rattle.jobs.specs.declared.Ran.{Ran}
-use Rattle.boundary.specs.declared.Decision.{Decision}
 use Rattle.boundary.specs.declared.StatusBits.{StatusBits}
 use Rattle.area.specs.Area.{packed, unpacked}
 use Rattle.area.specs.Renewed.{wholeArea, renewedBy, renewed, stored, left, called}
-use Rattle.boundary.specs.Exports.{freshCalled, statusBits, statusCalled, savedAs, saveCalled, reply, decided, undecided, replied, jobLeft, jobReply, jobCalled}
+use Rattle.boundary.specs.Exports.{freshCalled, statusBits, statusCalled, savedAs, saveCalled, jobLeft, jobReply, jobCalled}
 
 module _ (area : List ℤ) (wrong : length area ≡ 137 → ⊥) where
-  not-whole : wholeArea area ≡ false
+  pub not-whole : wholeArea area ≡ false
   not-whole = ne-eqb (length area) 137 wrong
 
   pub wrong-call : (c : Call) → left 100 area ≡ called area c
@@ -47,29 +42,11 @@ module _ (area : List ℤ) (wrong : length area ≡ 137 → ⊥) where
   unfolding jobCalled
   wrong-job job output = rw not-whole
 
-  pub wrong-reply : (numbers : List ℤ) (count : ℕ) (c : Call) (m : Measured) (after results : List ℤ) {r : Decision} → r ≡ undecided 100
-      → reply r area results ≡ replied area numbers count c m after results
-  wrong-reply numbers count c m after results e = rw (e, not-whole)
-
 module _ (area : List ℤ) (right : length area ≡ 137) where
-  whole : wholeArea area ≡ true
+  pub whole : wholeArea area ≡ true
   whole = eq-eqb (length area) 137 right
 
-  -- a call that is done, and one that is refused
-  none-refuses : (c : Call) {a : Answer} → a ≡ answered (unpacked area) c → a .refusal ≡ 0 → refusal (unpacked area) c ≡ 0
-  unfolding answered
-  none-refuses c e z = rw e at z
-
-  pub done-call : (c : Call) {a : Answer} {after : List ℤ} → a ≡ answered (unpacked area) c → a .refusal ≡ 0
-      → after ≡ renewedBy area (a .after) c → left (a .refusal) after ≡ called area c
-  unfolding called answered step renewed
-  done-call c e z h = rw (whole, h, e, none-refuses c e z)
-
-  pub refused-call : (c : Call) {a : Answer} → a ≡ answered (unpacked area) c → (a .refusal ≡ 0 → ⊥) → left (a .refusal) area ≡ called area c
-  unfolding called answered
-  refused-call c e n = rw (whole, e, ne-eqb (refusal (unpacked area) c) 0 (rw e at n))
-
-  -- the same by the number that the rules give
+  -- a call that is done, and one that is refused, by the number that the rules give
   pub call-done : (c : Call) {after : List ℤ} → first (rules (unpacked area) c) ≡ 0 → after ≡ renewedBy area (done (unpacked area) c) c → left 0 after ≡ called area c
   unfolding called refusal renewed
   call-done c z h = rw (whole, h, z)
@@ -96,22 +73,3 @@ module _ (area : List ℤ) (right : length area ≡ 137) where
       → jobLeft (jobReply r) left after ≡ jobCalled area job output
   unfolding jobCalled
   right-job job output e h = rw (h, e .0, e .1, whole)
-
-  -- the arguments are not as many as they should be
-  pub wrong-arguments : (numbers : List ℤ) (count : ℕ) (c : Call) (m : Measured) (after results : List ℤ) {r : Decision} → (length numbers ≡ count → ⊥)
-      → r ≡ undecided 101 → reply r area results ≡ replied area numbers count c m after results
-  wrong-arguments numbers count c m after results n e = rw (e, whole, ne-eqb (length numbers) count n)
-
-  -- a measurement that is made, done or refused
-  made-area : (c : Call) (n : ℕ) → stored n (renewedBy area (cond (eqb n 0) (done (unpacked area) c) (unpacked area)) c) area ≡ stored n (renewedBy area (done (unpacked area) c) c) area
-  made-area c zero = refl
-  made-area c (suc n) = rw (ne-eqb (suc n) 0 (λ q. omega arith))
-
-  module _ (numbers : List ℤ) (count : ℕ) (c : Call) (m : Measured) (after results : List ℤ) {found : Measured} {r : Decision} {array : List ℤ}
-      (n : length numbers ≡ count) (e : (found ≡ m) × (array ≡ after)) (d : r ≡ decided found) where
-    pub made-reply : m .refusal ≡ refusal (unpacked area) c → m .after ≡ step (unpacked area) c
-        → {new : List ℤ} → new ≡ stored (found .refusal) (renewedBy area (found .after) c) area → reply r new array ≡ replied area numbers count c m after results
-    unfolding step renewed
-    made-reply p q h =
-        let new : stored (m .refusal) (renewedBy area (m .after) c) area ≡ stored (m .refusal) (renewed area c) area = rw (q, p) (made-area c (refusal (unpacked area) c)) in
-        rw (d, h, e .0, e .1, whole, eq-eqb (length numbers) count n) (ap (λ (zs : List ℤ). reply (decided m) zs after) new)

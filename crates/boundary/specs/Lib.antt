@@ -1,5 +1,6 @@
 pub mod Exports
 pub mod ExportLaws
 pub mod PartLaws
+pub mod ReplyLaws
 pub mod Measurements
 pub mod MeasurementLaws

@@ -1,19 +1,14 @@
 -- The area after a measurement, from what it leaves of its records.
-use mathlib.Core.Path.{_≡_, sym, ap, ap₂}
-use mathlib.Core.Bool.{cond}
+use mathlib.Core.Path.{_≡_, ap, ap₂}
 use mathlib.Core.List.{List}
-use Prim.Native.Nat.{ℕ, zero, suc}
-use native.Mathlib.Omega.{arith}
-use lib.Dec.{eqb}
+use Prim.Native.Nat.{ℕ}
 use lib.IntN.{ℤ}
 use lib.ListN.{length}
-use borrow.Author.Tests.{ne-eqb}
-use Rattle.package.specs.declared.Package.{Package}
 use Rattle.package.specs.declared.Wear.{Wear}
 use Rattle.package.specs.declared.Offset.{Offset}
 use Rattle.package.specs.declared.ToolMeasurement.{ToolMeasurement}
 use Rattle.package.specs.declared.ZeroMeasurement.{ZeroMeasurement}
-use Rattle.rules.specs.Calls.{Call, measureTool, measureZero}
+use Rattle.rules.specs.Calls.{measureTool, measureZero}
 use Rattle.rules.specs.MeasuringLaws.{tool-numbers}
 use Rattle.tool_offset.specs.Tool.{ToolPassed, toolLeftIn, toolLeftOutcome}
 use Rattle.tool_offset.specs.declared.ToolLeft.{ToolLeft}
@@ -23,15 +18,10 @@ use Rattle.zero_offset.specs.declared.ZeroLeft.{ZeroLeft}
 use Rattle.area.specs.Area.{meansAt, toolsAt, offsetsAt, wearNumbers, offsetNumbers, unpacked}
 use Rattle.area.specs.Renewed.{replacedAt, renewedBy, stored}
 use Rattle.boundary.specs.Measurements.{toolPut, zeroPut}
+use Rattle.boundary.specs.ReplyLaws.{left-stored}
 use Rattle.area.specs.RecordLaws.{tools-long, offsets-long, means-long, wear-put, offset-put, value-put}
 
 module _ (area : List ℤ) (array : List ℤ) (place : ℕ) where
-  -- the package p is left as q where the refusal is 0
-  left-stored : (new : List ℤ) (p q : Package) (c : Call) → renewedBy area q c ≡ new
-      → (n : ℕ) → stored n new area ≡ stored n (renewedBy area (cond (eqb n 0) q p) c) area
-  left-stored new p q c e zero = sym e
-  left-stored new p q c e (suc n) = rw (ne-eqb (suc n) 0 (λ z. omega arith))
-
   tool-renewed : length area ≡ 137 → (a : ToolMeasurement) → ToolPassed a → (l : ToolLeft)
       → renewedBy area (toolLeftIn (unpacked area) a l) (measureTool a array place) ≡ toolPut area a l
   unfolding renewedBy
@@ -43,7 +33,7 @@ module _ (area : List ℤ) (array : List ℤ) (place : ℕ) where
 
   pub tool-stored : length area ≡ 137 → (a : ToolMeasurement) → ToolPassed a → (l : ToolLeft)
       → stored (l .refusal) (toolPut area a l) area ≡ stored (l .refusal) (renewedBy area (toolLeftOutcome (unpacked area) a l .after) (measureTool a array place)) area
-  tool-stored whole a h l = left-stored (toolPut area a l) (unpacked area) (toolLeftIn (unpacked area) a l) (measureTool a array place) (tool-renewed whole a h l) (l .refusal)
+  tool-stored whole a h l = left-stored area (toolPut area a l) (unpacked area) (toolLeftIn (unpacked area) a l) (measureTool a array place) (tool-renewed whole a h l) (l .refusal)
 
   zero-renewed : (a : ZeroMeasurement) → ZeroPassed a → (l : ZeroLeft)
       → renewedBy area (zeroLeftIn (unpacked area) a l) (measureZero a array place) ≡ zeroPut area a l
@@ -53,4 +43,4 @@ module _ (area : List ℤ) (array : List ℤ) (place : ℕ) where
 
   pub zero-stored : (a : ZeroMeasurement) → ZeroPassed a → (l : ZeroLeft)
       → stored (l .refusal) (zeroPut area a l) area ≡ stored (l .refusal) (renewedBy area (zeroLeftOutcome (unpacked area) a l .after) (measureZero a array place)) area
-  zero-stored a h l = left-stored (zeroPut area a l) (unpacked area) (zeroLeftIn (unpacked area) a l) (measureZero a array place) (zero-renewed a h l) (l .refusal)
+  zero-stored a h l = left-stored area (zeroPut area a l) (unpacked area) (zeroLeftIn (unpacked area) a l) (measureZero a array place) (zero-renewed a h l) (l .refusal)

@@ -18,11 +18,11 @@ use Rattle.rules.specs.Calibration.{calibrationArguments}
 use Rattle.rules.specs.Calls.{calibrate}
 use Rattle.probes.specs.declared.Calibrated.{Calibrated}
 use Rattle.probes.specs.Calibrated.{calibratedWith, directionCalibrated, withDirection}
-use Rattle.probes.specs.CalibratedLaws.{direction-refused, direction-done}
+use Rattle.probes.specs.CalibratedLaws.{probe-done, refusal-is}
 use Rattle.area.specs.Area.{probeNumbers, probeFrom, statusFrom, unpacked}
 use Rattle.area.specs.Renewed.{probeRenewed, renewedBy, stored, Left, left, called}
 use Rattle.boundary.specs.Exports.{partCalibrated}
-use Rattle.boundary.specs.ExportLaws.{done-call, refused-call}
+use Rattle.boundary.specs.ExportLaws.{call-done, call-refused}
 use Rattle.area.specs.LoopLaws.{part-long}
 use Rattle.area.specs.SectionLaws.{put-written, probe-at, probe-renewed}
 
@@ -78,18 +78,21 @@ module _ (zs : List ℤ) (i : ℕ) (low : i < 3) where
         let m = length-take-le 6 part (omega (arith, part-long zs (7 * i) 7 (omega arith))) in
         length-append (after x .triggers) (pos (after x .status) ∷ []) ∙ omega arith
 
+    found-refusal : (n : ℕ) → found (probeFrom part) .refusal ≡ n → found (probeOf (unpacked zs) (a .probe)) .refusal ≡ n
+    found-refusal n e = ap (λ (x : Probe). found x .refusal) (sym probe-is) ∙ e
+
     by-refusal : (n : ℕ) → found (probeFrom part) .refusal ≡ n →
         left n (putMid (7 * i) (7 * i + 7 - 7 * i) zs (stored n (probeNumbers (after (probeFrom part))) part)) ≡ called zs (calibrate a)
     unfolding renewedBy
     by-refusal zero e =
         let p = unpacked zs in
-        done-call zs right (calibrate a) (sym (direction-done p a passed (ap (λ (x : Probe). found x .refusal) (sym probe-is) ∙ e))) refl
+        let f = found-refusal 0 e in
+        call-done zs right (calibrate a) (refusal-is p a passed ∙ f)
         (put-written zs (probeNumbers (after (probeFrom part))) (7 * i) 7 numbers-long ∙ probe-renewed zs i (after (probeFrom part)) low
-        ∙ ap₂ (λ (n : ℤ) (x : Probe). probeRenewed zs (withProbe p n x) n) (sym probe) (ap after probe-is))
+        ∙ ap₂ (λ (n : ℤ) (x : Probe). probeRenewed zs (withProbe p n x) n) (sym probe) (ap after probe-is ∙ sym (probe-done (probeOf p (a .probe)) a f)))
     by-refusal (suc n) e =
-        let p = unpacked zs in
         rw (ne-eqb (suc n) 0 (λ q. omega arith), put-same (7 * i) (7 * i + 7 - 7 * i) zs)
-        (refused-call zs right (calibrate a) (sym (direction-refused p a passed n (ap (λ (x : Probe). found x .refusal) (sym probe-is) ∙ e))) (λ q. omega (arith, q)))
+        (call-refused zs right (calibrate a) (sym (refusal-is (unpacked zs) a passed ∙ found-refusal (suc n) e)) (λ q. omega (arith, q)))
 
     -- the area with the 7 numbers put back
     pub calibrate-left : {r : ℕ} {new : List ℤ} → left r new ≡ partCalibrated part a → left r (putMid (7 * i) (7 * i + 7 - 7 * i) zs new) ≡ called zs (calibrate a)

@@ -19,7 +19,7 @@ fn print_answers(job: &[u8], path: &[u8]) {
     let mut output = [0u8; ROOM];
     let ran = run_job(fresh(), job, &mut output);
     if ran.refusal != DONE {
-        report::refused(job, path);
+        report::refused(ran.refusal, job, path);
         return;
     }
     let length = ran.length;

@@ -1,7 +1,11 @@
 // One line on standard error: what is wrong and what to do.
 use jobs::JOB_LIMIT;
 use libc::STDERR_FILENO;
+use package::EMPTY_JOB;
 use text::LINE_FEED;
+ghost use mathlib.Core.Path.{_≡_};
+ghost use Prim.Native.Nat.{_≤_};
+ghost use lib.ListN.{length};
 
 fn say(path: &[u8], what: &[u8]) {
     io::write_all(STDERR_FILENO, b"measure: ");
@@ -9,16 +13,11 @@ fn say(path: &[u8], what: &[u8]) {
     io::write_all(STDERR_FILENO, what);
 }
 
-// Why a job was refused, by document 01's conditions of 11 and 12.
-pub fn refused(job: &[u8], path: &[u8]) {
+// Which of its three cases refusal 12 is.
+fn wrong_job(job: &[u8], path: &[u8])
+    requires { ⌜ 1 ≤ length (now job) ⌝ }
+{
     let size = job.len();
-    if size == 0 {
-        say(
-            path,
-            b": refusal 11, the job is empty; write one call a line\n",
-        );
-        return;
-    }
     if JOB_LIMIT < size {
         say(
             path,
@@ -37,6 +36,20 @@ pub fn refused(job: &[u8], path: &[u8]) {
         path,
         b": refusal 12, the job has over 1,000 lines; split it\n",
     );
+}
+
+// Why a job was refused, by 11 or 12.
+pub fn refused(refusal: u32, job: &[u8], path: &[u8])
+    requires { ⌜ (length (now job) ≡ 0 → refusal ≡ 11) ⌝ }
+{
+    if refusal == EMPTY_JOB {
+        say(
+            path,
+            b": refusal 11, the job is empty; write one call a line\n",
+        );
+        return;
+    }
+    wrong_job(job, path);
 }
 
 pub fn unreadable(path: &[u8]) {

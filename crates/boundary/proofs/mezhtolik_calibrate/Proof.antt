@@ -10,12 +10,12 @@ use borrow.Author.Needs.{needs}
 use Rattle.signed.specs.CodeLaws.{from-one, in-store}
 use Rattle.package.specs.declared.Calibration.{Calibration}
 use Rattle.rules.specs.Refusals.{first}
+use Rattle.rules.specs.RefusalLaws.{first-sooner}
 use Rattle.rules.specs.Calibration.{calibrationArguments}
 use Rattle.rules.specs.Calls.{calibrate}
-use Rattle.probes.specs.CalibratedLaws.{numbers-passed, arguments-refused}
-use Rattle.area.specs.Area.{unpacked}
+use Rattle.probes.specs.CalibratedLaws.{numbers-passed}
 use Rattle.boundary.specs.Exports.{calibration, partCalibrated}
-use Rattle.boundary.specs.ExportLaws.{wrong-call, refused-call}
+use Rattle.boundary.specs.ExportLaws.{wrong-call, call-refused}
 use Rattle.area.specs.LoopLaws.{part-long}
 use Rattle.boundary.specs.PartLaws.{calibrate-left}
 use Rattle.boundary.proofs.mezhtolik_calibrate.Statement.{statement}
@@ -49,9 +49,8 @@ returns-2 c =
     let s = e .before in
     let r = c .before .calibration-refusal .result in
     let some : r ≡ suc (r - 1) = omega (arith, c .if2 .taken) in
-    rw some
-    (refused-call (s .args .area .now) (e .if1 .left) (calibrate (arguments s))
-    (sym (arguments-refused (unpacked (s .args .area .now)) (arguments s) (r - 1) (sym (refused (c .before)) ∙ some))) (λ q. omega (arith, q)))
+    call-refused (s .args .area .now) (e .if1 .left) (calibrate (arguments s))
+    (some ∙ sym (first-sooner (calibrationArguments (arguments s)) _ (r - 1) (sym (refused (c .before)) ∙ some))) (c .if2 .taken)
 
 passed : (c : tie.Else2) → first (calibrationArguments (arguments (c .before .before .before))) ≡ 0
 passed c = sym (refused (c .before)) ∙ c .if2 .left

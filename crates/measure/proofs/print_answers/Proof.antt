@@ -2,7 +2,8 @@ use mathlib.Core.Path.{sym}
 use Prim.Native.Nat.{_≤_}
 use lib.ListN.{length}
 use lib.Seq.{length-take-le}
-use Rattle.jobs.specs.JobLaws.{output-fits}
+use Rattle.jobs.specs.Jobs.{jobRan}
+use Rattle.jobs.specs.JobLaws.{job-empty, output-fits}
 use borrow.Author.Needs.{needs}
 use Rattle.measure.proofs.print_answers.Statement.{statement}
 use Rattle.measure.proofs.print_answers.Tie as tie
@@ -21,7 +22,10 @@ run-job-requires : tie.Need-run-job-requires
 run-job-requires c κs = search needs
 
 refused-requires : tie.Need-refused-requires
-refused-requires c κs = search needs
+unfolding jobRan
+refused-requires c κs e =
+    let r = c .before .before .before in
+    rw (r .run-job .ensures .0, job-empty _ _ e)
 
 returns : tie.Need-returns
 returns c = search needs
