@@ -1,20 +1,20 @@
 // Document 01's printed job as direct calls, and its worked values.
 ghost use mathlib.Core.Path.{_≡_};
 ghost use lib.ListN.{length};
-use crate::call::each_deviation;
-use crate::call::each_tool;
-use crate::fields::AXIS;
-use crate::fields::Call;
-use crate::fields::GROOVE;
-use crate::fields::R2;
-use crate::fields::TDIF;
-use crate::fields::TMV;
-use crate::fields::TSA;
-use crate::fields::TZL;
-use crate::fields::with;
-use crate::setup::calibration;
-use crate::setup::load;
-use crate::stores;
+use worked::call::each_deviation;
+use worked::call::each_tool;
+use worked::fields::AXIS;
+use worked::fields::Call;
+use worked::fields::groove;
+use worked::fields::R2;
+use worked::fields::TDIF;
+use worked::fields::TMV;
+use worked::fields::TSA;
+use worked::fields::TZL;
+use worked::fields::with;
+use worked::setup::calibration;
+use worked::setup::load;
+use worked::stores;
 use package::Package;
 
 const JOB: Call = Call {
@@ -105,8 +105,8 @@ pub fn worked_values(p: Package) -> Package {
     let block = block_of(WORDS);
     let p = load(p, &block);
     stores::memory(p);
-    let p = each_deviation(p, wide(GROOVE), R2, &MEANS);
-    each_deviation(p, GROOVE, R2, &DECISIONS)
+    let p = each_deviation(p, wide(groove()), R2, &MEANS);
+    each_deviation(p, groove(), R2, &DECISIONS)
 }
 
 // The call with all limits of D as wide as a mean allows.

@@ -1,22 +1,22 @@
 // Every kind with tool and with zero offset, in both directions and on each axis that it may have; then with each direction uncalibrated in turn.
 ghost use Prim.Native.Nat.{_≤_};
-use crate::call::tool;
-use crate::call::tool_of;
-use crate::call::zero;
-use crate::call::zero_of;
-use crate::fields::Call;
-use crate::fields::PROBE;
-use crate::fields::TDIF;
-use crate::fields::TSA;
-use crate::fields::ZERO_TSA;
-use crate::fields::with;
-use crate::print::answer;
-use crate::print::call;
-use crate::print::end;
-use crate::print::name;
-use crate::setup::calibrated;
-use crate::setup::offset;
-use crate::stores;
+use worked::call::tool;
+use worked::call::tool_of;
+use worked::call::zero;
+use worked::call::zero_of;
+use worked::fields::Call;
+use worked::fields::PROBE;
+use worked::fields::TDIF;
+use worked::fields::TSA;
+use worked::fields::ZERO_TSA;
+use worked::fields::with;
+use worked::print::answer;
+use worked::print::call;
+use worked::print::end;
+use worked::print::name;
+use worked::setup::calibrated;
+use worked::setup::offset;
+use worked::stores;
 use package::Package;
 
 // Triggers 1, 20, 300, 4000, 50,000, -60,000 at the places 1 to 6, so that no two sums of them are the same.
