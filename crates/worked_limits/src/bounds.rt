@@ -1,4 +1,6 @@
 // Both sides of each boundary. A table's comment names the refusal of what lies beyond it.
+use package::Package;
+use package::Probe;
 use worked::call::each_deviation;
 use worked::call::each_tool;
 use worked::call::each_zero;
@@ -8,15 +10,11 @@ use worked::fields::C2;
 use worked::fields::DIRECTION;
 use worked::fields::EV;
 use worked::fields::GREATEST;
-use worked::fields::groove;
-use worked::fields::hole;
 use worked::fields::K;
 use worked::fields::KIND;
 use worked::fields::LEAST;
-use worked::fields::length_plane;
 use worked::fields::MV;
 use worked::fields::OFFSET;
-use worked::fields::plane;
 use worked::fields::PROBE;
 use worked::fields::R1;
 use worked::fields::R2;
@@ -30,17 +28,19 @@ use worked::fields::TOOL;
 use worked::fields::TSA;
 use worked::fields::TUL;
 use worked::fields::TZL;
+use worked::fields::ZERO_TSA;
+use worked::fields::groove;
+use worked::fields::hole;
+use worked::fields::length_plane;
+use worked::fields::plane;
 use worked::fields::web;
+use worked::fields::with;
 use worked::fields::zero_groove;
 use worked::fields::zero_hole;
 use worked::fields::zero_plane;
-use worked::fields::ZERO_TSA;
-use worked::fields::with;
 use worked::setup::offset;
 use worked::setup::wear;
 use worked::stores;
-use package::Package;
-use package::Probe;
 
 // 2 in groove.
 const NUMBERS: [[i64; 4]; 25] = [
@@ -102,15 +102,6 @@ const ZERO_NUMBERS: [[i64; 4]; 10] = [
 
 const ZERO_PLANE_NUMBERS: [[i64; 4]; 2] = [[AXIS, 4, 0, 0], [DIRECTION, 2, 0, 0]];
 
-pub fn numbers(p: Package) -> Package {
-    let p = each_tool(p, groove(), &NUMBERS);
-    let p = each_tool(p, plane(), &PLANE_NUMBERS);
-    let p = each_zero(p, zero_groove(), &ZERO_NUMBERS);
-    let p = each_zero(p, zero_plane(), &ZERO_PLANE_NUMBERS);
-    let p = each_tool(p, groove(), &EXTREMES);
-    each_zero(p, zero_groove(), &ZERO_EXTREMES)
-}
-
 // Each field that groove uses, at an end of i64.
 const EXTREMES: [[i64; 4]; 13] = [
     [KIND, LEAST, 0, 0],
@@ -133,6 +124,27 @@ const ZERO_EXTREMES: [[i64; 4]; 3] = [
     [C1, LEAST, R2, GREATEST],
     [ZERO_TSA, GREATEST, 0, 0],
 ];
+
+pub fn numbers(p: Package) -> Package {
+    let p = tool_numbers(p);
+    let p = zero_numbers(p);
+    extremes(p)
+}
+
+fn tool_numbers(p: Package) -> Package {
+    let p = each_tool(p, groove(), &NUMBERS);
+    each_tool(p, plane(), &PLANE_NUMBERS)
+}
+
+fn zero_numbers(p: Package) -> Package {
+    let p = each_zero(p, zero_groove(), &ZERO_NUMBERS);
+    each_zero(p, zero_plane(), &ZERO_PLANE_NUMBERS)
+}
+
+fn extremes(p: Package) -> Package {
+    let p = each_tool(p, groove(), &EXTREMES);
+    each_zero(p, zero_groove(), &ZERO_EXTREMES)
+}
 
 // 3: a position as setpoint of a plane, and its raw.
 const PLANE_POSITIONS: [[i64; 4]; 6] = [
@@ -202,10 +214,22 @@ const ZERO_PLANE_POSITIONS: [[i64; 4]; 2] = [
 ];
 
 pub fn positions(p: Package) -> Package {
+    let p = tool_positions(p);
+    let p = far_positions(p);
+    zero_positions(p)
+}
+
+fn tool_positions(p: Package) -> Package {
     let p = each_tool(p, plane(), &PLANE_POSITIONS);
-    let p = each_tool(p, groove(), &PAIR_POSITIONS);
+    each_tool(p, groove(), &PAIR_POSITIONS)
+}
+
+fn far_positions(p: Package) -> Package {
     let p = each_tool(p, with(groove(), SETPOINT, 10_000_000), &RAWS);
-    let p = each_tool(p, with(hole(), SETPOINT, 10_000_000), &HOLE_POSITIONS);
+    each_tool(p, with(hole(), SETPOINT, 10_000_000), &HOLE_POSITIONS)
+}
+
+fn zero_positions(p: Package) -> Package {
     let p = each_zero(p, zero_groove(), &ZERO_POSITIONS);
     let p = each_zero(p, zero_hole(), &ZERO_HOLE_POSITIONS);
     each_zero(p, zero_plane(), &ZERO_PLANE_POSITIONS)
@@ -318,29 +342,37 @@ const SHIFTS: [[i64; 4]; 2] = [[R2, 1, 0, 0], [R2, 1, 0, 0]];
 const LOW_SHIFTS: [[i64; 4]; 2] = [[R2, -1, 0, 0], [R2, -1, 0, 0]];
 
 pub fn records(p: Package) -> Package {
-    let p = wears(p);
-    offsets(p)
+    let p = radius_wears(p);
+    let p = length_wears(p);
+    let p = plane_offsets(p);
+    pair_offsets(p)
 }
 
-fn wears(p: Package) -> Package {
+fn radius_wears(p: Package) -> Package {
     let groove = with(groove(), TOOL, 7);
-    let plane = with(length_plane(), TOOL, 7);
     let p = wear(p, 7, 1_999_979, 7);
     let p = each_tool(p, groove, &TO_THE_END);
     let p = each_deviation(p, groove, R2, &MEAN_STAYS);
     let p = wear(p, 7, -1_999_979, 7);
-    let p = each_tool(p, with(web(), TOOL, 7), &TO_THE_END);
+    each_tool(p, with(web(), TOOL, 7), &TO_THE_END)
+}
+
+fn length_wears(p: Package) -> Package {
+    let plane = with(length_plane(), TOOL, 7);
     let p = wear(p, 7, 7, 1_999_958);
     let p = each_tool(p, plane, &LENGTH_TO_THE_END);
     let p = wear(p, 7, 7, -1_999_958);
     each_tool(p, plane, &LENGTH_TO_THE_LOW_END)
 }
 
-fn offsets(p: Package) -> Package {
+fn plane_offsets(p: Package) -> Package {
     let p = offset(p, 3, 19_999_980, 5, 5);
     let p = each_zero(p, zero_plane(), &PLANE_SHIFTS);
     let p = offset(p, 3, -19_999_980, 5, 5);
-    let p = each_zero(p, zero_plane(), &LOW_PLANE_SHIFTS);
+    each_zero(p, zero_plane(), &LOW_PLANE_SHIFTS)
+}
+
+fn pair_offsets(p: Package) -> Package {
     let p = offset(p, 3, 19_999_999, 5, 5);
     let p = each_zero(p, zero_groove(), &SHIFTS);
     let p = offset(p, 3, -19_999_999, 5, 5);

@@ -1,36 +1,37 @@
 // Each branch with and without a mean; surfaces that do not make a width; fields that a kind does not use; zero offsets on both axes.
+use package::Package;
 use worked::call::each_deviation;
 use worked::call::each_tool;
 use worked::call::each_zero;
 use worked::fields::AXIS;
 use worked::fields::C1;
 use worked::fields::C2;
+use worked::fields::Call;
 use worked::fields::DIRECTION;
 use worked::fields::GREATEST;
-use worked::fields::groove;
-use worked::fields::hole;
 use worked::fields::LEAST;
-use worked::fields::length_plane;
 use worked::fields::OFFSET;
-use worked::fields::plane;
 use worked::fields::R1;
 use worked::fields::R2;
 use worked::fields::R3;
 use worked::fields::R4;
 use worked::fields::SETPOINT;
-use worked::fields::shaft;
 use worked::fields::TLL;
 use worked::fields::TOOL;
 use worked::fields::TUL;
+use worked::fields::groove;
+use worked::fields::hole;
+use worked::fields::length_plane;
+use worked::fields::plane;
+use worked::fields::shaft;
 use worked::fields::web;
+use worked::fields::wide;
+use worked::fields::with;
 use worked::fields::zero_groove;
 use worked::fields::zero_hole;
 use worked::fields::zero_plane;
 use worked::fields::zero_shaft;
-use worked::fields::with;
-use worked::fields::wide;
 use worked::setup::offset;
-use package::Package;
 
 // Mean number, D, k: branches 1, 2, 5 without a mean, 3, 4, 3, 5 with one. Of a shaft, with mean 4.
 const SHAFT_BRANCHES: [[i64; 3]; 7] = [
@@ -83,13 +84,21 @@ const OUT_OF_TOLERANCE: [[i64; 3]; 8] = [
 ];
 
 pub fn with_tool(p: Package) -> Package {
-    let p = each_deviation(p, with(shaft(), TOOL, 8), R4, &SHAFT_BRANCHES);
-    let p = each_deviation(p, with(length_plane(), TOOL, 8), R1, &PLANE_BRANCHES);
-    let p = each_deviation(p, groove(), R2, &NEW_MEANS);
-    let p = each_deviation(p, wide(groove()), R2, &FAR_MEANS);
-    let p = each_deviation(p, groove(), R2, &HALVES);
+    let p = each_branch(p);
+    let p = new_means(p);
     let narrow = with(with(groove(), TUL, 10), TLL, -10);
     each_deviation(p, narrow, R2, &OUT_OF_TOLERANCE)
+}
+
+fn each_branch(p: Package) -> Package {
+    let p = each_deviation(p, with(shaft(), TOOL, 8), R4, &SHAFT_BRANCHES);
+    each_deviation(p, with(length_plane(), TOOL, 8), R1, &PLANE_BRANCHES)
+}
+
+fn new_means(p: Package) -> Package {
+    let p = each_deviation(p, groove(), R2, &NEW_MEANS);
+    let p = each_deviation(p, wide(groove()), R2, &FAR_MEANS);
+    each_deviation(p, groove(), R2, &HALVES)
 }
 
 // 6: with setpoint 1, surfaces one apart, the same, and reversed. Groove and web on axis 1; then a hole's two pairs, each by itself.
@@ -108,15 +117,21 @@ const SHAFT_SURFACES: [[i64; 4]; 3] = [[R2, 22, R4, 4301], [R2, 21, R4, 4301], [
 pub fn surfaces(p: Package) -> Package {
     let p = each_tool(p, with(groove(), SETPOINT, 1), &GROOVE_SURFACES);
     let p = each_tool(p, with(web(), SETPOINT, 1), &WEB_SURFACES);
-    let hole = with(with(with(hole(), SETPOINT, 1), R1, 0), R3, 0);
-    let p = each_tool(p, hole, &HOLE_SURFACES);
-    let shaft = with(with(with(shaft(), SETPOINT, 1), R1, 0), R3, 0);
-    let p = each_tool(p, shaft, &SHAFT_SURFACES);
+    let p = each_tool(p, from_zero(with(hole(), SETPOINT, 1)), &HOLE_SURFACES);
+    let p = each_tool(p, from_zero(with(shaft(), SETPOINT, 1)), &SHAFT_SURFACES);
+    zero_surfaces(p)
+}
+
+fn zero_surfaces(p: Package) -> Package {
     let groove = with(with(zero_groove(), OFFSET, 1), C1, 0);
     let p = each_zero(p, groove, &GROOVE_SURFACES);
     let hole = with(with(zero_hole(), OFFSET, 1), C1, 0);
-    let hole = with(with(with(hole, C2, 0), R1, 0), R3, 0);
-    each_zero(p, hole, &HOLE_SURFACES)
+    each_zero(p, from_zero(with(hole, C2, 0)), &HOLE_SURFACES)
+}
+
+// The call with the first raw of both axes 0.
+fn from_zero(c: Call) -> Call {
+    with(with(c, R1, 0), R3, 0)
 }
 
 // Fields that are not used change nothing, whatever they hold.
@@ -130,6 +145,10 @@ pub fn unused_fields(p: Package) -> Package {
     let p = each_tool(p, with(hole(), R4, 5), &HOLE_UNUSED);
     let p = each_tool(p, groove(), &GROOVE_UNUSED);
     let p = each_tool(p, plane(), &PLANE_UNUSED);
+    zero_unused_fields(p)
+}
+
+fn zero_unused_fields(p: Package) -> Package {
     let p = each_zero(p, with(zero_hole(), R4, 5), &HOLE_UNUSED);
     let p = each_zero(p, zero_groove(), &GROOVE_UNUSED);
     each_zero(p, zero_plane(), &PLANE_UNUSED)
@@ -162,12 +181,16 @@ const TO_THE_LOW_END: [[i64; 4]; 2] = [[R2, 2, R4, -2], [R2, 2, R4, -1]];
 
 pub fn both_axes(p: Package) -> Package {
     let p = offset(p, 3, 10, 20, 30);
-    let p = each_zero(p, zero_plane(), &PLANE_SHIFTS);
-    let p = each_zero(p, zero_groove(), &GROOVE_SHIFTS);
-    let p = each_zero(p, zero_hole(), &HOLE_SHIFTS);
-    let p = each_zero(p, zero_shaft(), &SHAFT_SHIFTS);
+    let p = shifts(p);
     let p = offset(p, 3, 19_999_999, 20, 30);
     let p = each_zero(p, zero_hole(), &TO_THE_END);
     let p = offset(p, 3, 10, -19_999_999, 30);
     each_zero(p, zero_shaft(), &TO_THE_LOW_END)
+}
+
+fn shifts(p: Package) -> Package {
+    let p = each_zero(p, zero_plane(), &PLANE_SHIFTS);
+    let p = each_zero(p, zero_groove(), &GROOVE_SHIFTS);
+    let p = each_zero(p, zero_hole(), &HOLE_SHIFTS);
+    each_zero(p, zero_shaft(), &SHAFT_SHIFTS)
 }

@@ -1,6 +1,8 @@
 // Refusals against their neighbours in the order, and the place of the result array.
 ghost use mathlib.Core.Path.{_≡_};
 ghost use lib.ListN.{length};
+use package::Measured;
+use package::Package;
 use worked::call::answers;
 use worked::call::each_tool;
 use worked::call::each_zero;
@@ -8,7 +10,6 @@ use worked::call::tool_of;
 use worked::call::zero_of;
 use worked::fields::AXIS;
 use worked::fields::Call;
-use worked::fields::groove;
 use worked::fields::K;
 use worked::fields::KIND;
 use worked::fields::MV;
@@ -20,10 +21,11 @@ use worked::fields::SETPOINT;
 use worked::fields::TOOL;
 use worked::fields::TSA;
 use worked::fields::TZL;
+use worked::fields::ZERO_TSA;
+use worked::fields::groove;
+use worked::fields::with;
 use worked::fields::zero_groove;
 use worked::fields::zero_hole;
-use worked::fields::ZERO_TSA;
-use worked::fields::with;
 use worked::print::end;
 use worked::print::name;
 use worked::print::number;
@@ -32,8 +34,6 @@ use worked::print::text;
 use worked::print::unsigned;
 use worked::setup::offset;
 use worked::setup::wear;
-use package::Measured;
-use package::Package;
 
 // Two refusals apply to each, and the first is given. Probe 1 is uncalibrated on axis 2, tool 9 is at the end of its range, mean 12 is 12.
 const PAIRS: [[i64; 4]; 14] = [

@@ -1,9 +1,9 @@
 // Series of parts with one mean each, beside the exact reckoning and the manual's table of means.
 ghost use Prim.Native.Nat.{_≤_, _<_};
+use package::Package;
 use worked::call::answers;
 use worked::call::tool_of;
 use worked::fields::Call;
-use worked::fields::groove;
 use worked::fields::K;
 use worked::fields::MV;
 use worked::fields::R1;
@@ -14,8 +14,9 @@ use worked::fields::TOOL;
 use worked::fields::TSA;
 use worked::fields::TUL;
 use worked::fields::TZL;
-use worked::fields::with;
+use worked::fields::groove;
 use worked::fields::wide;
+use worked::fields::with;
 use worked::print::call;
 use worked::print::decimals;
 use worked::print::end;
@@ -23,7 +24,6 @@ use worked::print::from32;
 use worked::print::record;
 use worked::setup::load;
 use worked::stores;
-use package::Package;
 
 // The exact values of all tables are in thousandths of u.
 pub fn every(p: Package) {
