@@ -1,43 +1,25 @@
 // Every kind with tool and with zero offset, in both directions and on each axis that it may have; then with each direction uncalibrated in turn.
 ghost use Prim.Native.Nat.{_≤_};
-use crate::call::tool;
-use crate::call::tool_of;
-use crate::call::zero;
-use crate::call::zero_of;
-use crate::fields::Call;
-use crate::fields::PROBE;
-use crate::fields::TDIF;
-use crate::fields::TSA;
-use crate::fields::ZERO_TSA;
-use crate::fields::with;
-use crate::print::answer;
-use crate::print::call;
-use crate::print::end;
-use crate::print::name;
-use crate::setup::calibrated;
-use crate::setup::offset;
-use crate::stores;
 use package::Package;
-
-// Triggers 1, 20, 300, 4000, 50,000, -60,000 at the places 1 to 6, so that no two sums of them are the same.
-const PROBE_2: [[i64; 7]; 6] = [
-    [2, 1, 1, 0, 1, 0, 100_000],
-    [2, 1, 0, 20, 0, 0, 100_000],
-    [2, 2, 1, 0, 300, 0, 100_000],
-    [2, 2, 0, 4000, 0, 0, 100_000],
-    [2, 3, 1, 0, 50_000, 0, 100_000],
-    [2, 3, 0, -60_000, 0, 0, 100_000],
-];
-
-// Triggers 0.
-const PROBE_3: [[i64; 7]; 6] = [
-    [3, 1, 1, 0, 0, 0, 0],
-    [3, 1, 0, 0, 0, 0, 0],
-    [3, 2, 1, 0, 0, 0, 0],
-    [3, 2, 0, 0, 0, 0, 0],
-    [3, 3, 1, 0, 0, 0, 0],
-    [3, 3, 0, 0, 0, 0, 0],
-];
+use worked::call::tool;
+use worked::call::tool_of;
+use worked::call::zero;
+use worked::call::zero_of;
+use worked::fields::Call;
+use worked::fields::PROBE;
+use worked::fields::TDIF;
+use worked::fields::TSA;
+use worked::fields::ZERO_TSA;
+use worked::fields::with;
+use worked::print::answer;
+use worked::print::call;
+use worked::print::end;
+use worked::print::name;
+use worked::setup::PROBE_2;
+use worked::setup::PROBE_3;
+use worked::setup::calibrated;
+use worked::setup::offset;
+use worked::stores;
 
 // Kind with tool and with zero offset, axis, direction, setpoint, r1, r2, r3, r4: one for each way to touch, measured 31 to 36 and 41 to 46 u above the
 // setpoint.

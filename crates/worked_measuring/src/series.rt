@@ -1,29 +1,29 @@
 // Series of parts with one mean each, beside the exact reckoning and the manual's table of means.
 ghost use Prim.Native.Nat.{_≤_, _<_};
-use crate::call::answers;
-use crate::call::tool_of;
-use crate::fields::Call;
-use crate::fields::GROOVE;
-use crate::fields::K;
-use crate::fields::MV;
-use crate::fields::R1;
-use crate::fields::R2;
-use crate::fields::TDIF;
-use crate::fields::TMV;
-use crate::fields::TOOL;
-use crate::fields::TSA;
-use crate::fields::TUL;
-use crate::fields::TZL;
-use crate::fields::with;
-use crate::job::wide;
-use crate::print::call;
-use crate::print::decimals;
-use crate::print::end;
-use crate::print::from32;
-use crate::print::record;
-use crate::setup::load;
-use crate::stores;
 use package::Package;
+use worked::call::answers;
+use worked::call::tool_of;
+use worked::fields::Call;
+use worked::fields::K;
+use worked::fields::MV;
+use worked::fields::R1;
+use worked::fields::R2;
+use worked::fields::TDIF;
+use worked::fields::TMV;
+use worked::fields::TOOL;
+use worked::fields::TSA;
+use worked::fields::TUL;
+use worked::fields::TZL;
+use worked::fields::groove;
+use worked::fields::wide;
+use worked::fields::with;
+use worked::print::call;
+use worked::print::decimals;
+use worked::print::end;
+use worked::print::from32;
+use worked::print::record;
+use worked::setup::load;
+use worked::stores;
 
 // The exact values of all tables are in thousandths of u.
 pub fn every(p: Package) {
@@ -37,7 +37,7 @@ pub fn every(p: Package) {
 const EQUAL_EXACT: [u64; 3] = [250, 438, 578];
 
 fn equal_parts(p: Package) -> Package {
-    let c = with(with(GROOVE, MV, 1), TOOL, 10);
+    let c = with(with(groove(), MV, 1), TOOL, 10);
     let c = with(with(c, K, 4), R2, 1);
     let mut q = p;
     let mut i: usize = 0;
@@ -80,7 +80,7 @@ const MEANS_2: [[u64; 2]; 10] = [
 ];
 
 fn manual_table(p: Package) -> Package {
-    let c = with(with(GROOVE, TZL, 400), TMV, 1000);
+    let c = with(with(groove(), TZL, 400), TMV, 1000);
     let c = with(with(c, TDIF, 2000), TSA, 2000);
     let c = with(c, TUL, 1000);
     let three = with(with(c, MV, 2), TOOL, 11);
@@ -160,7 +160,7 @@ fn drift_call(i: usize) -> Call
 {
     let k = WEIGHTS[(i - 1) / 50];
     let raw = 6 * i + 37 * i % 41;
-    let c = with(with(wide(GROOVE), MV, 4), TOOL, 13);
+    let c = with(with(wide(groove()), MV, 4), TOOL, 13);
     let c = with(with(c, TUL, 32_767), K, k);
     let c = with(c, R1, -198_980);
     with(c, R2, raw as i64)

@@ -1,60 +1,21 @@
 // The calls load and save.
-ghost use mathlib.Core.Path.{_≡_};
-ghost use lib.ListN.{length};
-use crate::print::call;
-use crate::print::end;
-use crate::print::from16;
-use crate::print::name;
-use crate::print::record;
-use crate::print::refusal;
-use crate::print::text;
-use crate::stores;
 use libc::STDOUT_FILENO;
 use package::Package;
+use worked::print::answer;
+use worked::print::call;
+use worked::print::end;
+use worked::print::from16;
+use worked::print::name;
+use worked::print::record;
+use worked::print::text;
+use worked::stores;
 
-// The 40 words of a block, low byte and high byte: twenty EV, then twenty MV. FD FF is -3, 00 80 and FF 7F are the ends of the range.
-const WORDS: [[u8; 2]; 40] = [
-    [0xFD, 0xFF],
-    [0x00, 0x80],
-    [0xFF, 0x7F],
-    [0x00, 0x00],
-    [0x01, 0x00],
-    [0xFF, 0xFF],
-    [0x00, 0x01],
-    [0xFF, 0x00],
-    [0x80, 0x00],
-    [0x7F, 0xFF],
-    [0x01, 0x80],
-    [0xFE, 0x7F],
-    [0x00, 0xFF],
-    [0x02, 0x01],
-    [0x0F, 0x00],
-    [0x10, 0x00],
-    [0x11, 0x00],
-    [0x12, 0x00],
-    [0x13, 0x00],
-    [0x14, 0x00],
-    [0xFD, 0xFF],
-    [0x00, 0x80],
-    [0xFF, 0x7F],
-    [0x18, 0x00],
-    [0x19, 0x00],
-    [0x1A, 0x00],
-    [0x1B, 0x00],
-    [0x1C, 0x00],
-    [0x1D, 0x00],
-    [0x1E, 0x00],
-    [0x1F, 0x00],
-    [0x20, 0x00],
-    [0x21, 0x00],
-    [0x22, 0x00],
-    [0x23, 0x00],
-    [0x24, 0x00],
-    [0x25, 0x00],
-    [0x26, 0x00],
-    [0x27, 0x00],
-    [0xD8, 0xFF],
-];
+// A block: twenty EV, then twenty MV, low byte and high byte. FD FF is -3, 00 80 and FF 7F are the ends of the range.
+const BLOCK: [u8; 80] = *b"\
+    \xFD\xFF\x00\x80\xFF\x7F\x00\x00\x01\x00\xFF\xFF\x00\x01\xFF\x00\x80\x00\x7F\xFF\
+    \x01\x80\xFE\x7F\x00\xFF\x02\x01\x0F\x00\x10\x00\x11\x00\x12\x00\x13\x00\x14\x00\
+    \xFD\xFF\x00\x80\xFF\x7F\x18\x00\x19\x00\x1A\x00\x1B\x00\x1C\x00\x1D\x00\x1E\x00\
+    \x1F\x00\x20\x00\x21\x00\x22\x00\x23\x00\x24\x00\x25\x00\x26\x00\x27\x00\xD8\xFF";
 
 // What a buffer holds before it is lent.
 const FILL: u8 = 0x5A;
@@ -91,25 +52,10 @@ fn load_equal(p: Package, length: usize, byte: u8) -> Package {
 }
 
 fn load_words(p: Package) -> Package {
-    let bytes = block_of(WORDS);
     text(b"load,words:");
-    let q = load(p, &bytes);
+    let q = load(p, &BLOCK);
     stores::memory(q);
     q
-}
-
-fn block_of(words: [[u8; 2]; 40]) -> [u8; 80]
-    ensures { λ r. ⌜ 80 ≡ length r ⌝ }
-{
-    let mut bytes = [0u8; 80];
-    let mut i: usize = 0;
-    while i < 40 {
-        let w = words[i];
-        bytes[2 * i] = w[0];
-        bytes[2 * i + 1] = w[1];
-        i += 1;
-    }
-    bytes
 }
 
 // Saves the memory, loads another block, and loads what was saved.
@@ -122,9 +68,9 @@ fn there_and_back(p: Package) -> Package {
 }
 
 fn load(p: Package, bytes: &[u8]) -> Package {
-    let answer = records::load(p, bytes);
-    let after = answer.after;
-    refusal(answer.refusal);
+    let a = records::load(p, bytes);
+    let after = a.after;
+    answer(a.refusal);
     let memory = after.memory;
     record(
         b"EV",
@@ -147,7 +93,7 @@ fn save_into(p: Package, bytes: &mut [u8]) {
     let length = bytes.len();
     call(b"save", &[length as i64]);
     let n = records::save(p, bytes);
-    refusal(n);
+    answer(n);
     name(b"bytes");
     hexadecimal(bytes);
     end();

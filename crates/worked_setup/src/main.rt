@@ -12,15 +12,11 @@
 // A call that names no record shows its refusal alone. A line with no refusal is a store, whole: memory, wears (radius/length of each tool),
 // offset, probe.
 mod block;
-mod print;
 mod probing;
 mod setting;
-mod stores;
+mod wears;
 
-// The ends of i64: a call answers for every number.
-pub const LEAST: i64 = -9_223_372_036_854_775_808;
-
-pub const GREATEST: i64 = 9_223_372_036_854_775_807;
+use worked::stores;
 
 fn main() {
     let p = package::fresh();
@@ -30,7 +26,7 @@ fn main() {
     probing::foreign_records(p);
     let p = block::blocks(p);
     stores::memory(p);
-    stores::wears(p);
+    wears::all(p);
     stores::offsets(p);
     stores::probes(p);
 }

@@ -1,18 +1,18 @@
 // The calls C and status.
 ghost use Prim.Native.Nat.{_≤_};
-use crate::GREATEST;
-use crate::LEAST;
-use crate::print::call;
-use crate::print::end;
-use crate::print::from32;
-use crate::print::record;
-use crate::print::refusal;
-use crate::print::slot;
-use crate::stores;
-use package::Calibration;
 use package::Package;
 use package::Probe;
 use package::Status;
+use worked::fields::GREATEST;
+use worked::fields::LEAST;
+use worked::print::answer;
+use worked::print::call;
+use worked::print::end;
+use worked::print::from32;
+use worked::print::record;
+use worked::print::slot;
+use worked::setup::calibrated;
+use worked::stores;
 
 // Probe, axis, direction, setpoint, raw, TZL, TSA
 const CALIBRATIONS: [[i64; 7]; 68] = [
@@ -136,19 +136,10 @@ fn each_calibration(p: Package, cases: &[[i64; 7]]) -> Package {
 }
 
 fn calibration(p: Package, c: [i64; 7]) -> Package {
-    let given = Calibration {
-        probe: c[0],
-        axis: c[1],
-        direction: c[2],
-        setpoint: c[3],
-        raw: c[4],
-        tzl: c[5],
-        tsa: c[6],
-    };
-    let answer = probes::calibrate(p, given);
-    let after = answer.after;
+    let a = calibrated(p, c);
+    let after = a.after;
     call(b"C", &c);
-    refusal(answer.refusal);
+    answer(a.refusal);
     let i = trigger_index(c[1], c[2]);
     trigger(after, c[0], i);
     end();
@@ -202,7 +193,7 @@ pub fn statuses(p: Package, probes: &[i64]) {
 fn status(p: Package, probe: i64) {
     let s = probes::probe_status(p, probe);
     call(b"status", &[probe]);
-    refusal(s.refusal);
+    answer(s.refusal);
     bits(s);
     end();
 }

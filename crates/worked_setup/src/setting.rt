@@ -1,15 +1,15 @@
 // The setting calls E, W and O.
-use crate::GREATEST;
-use crate::LEAST;
-use crate::print::call;
-use crate::print::end;
-use crate::print::from16;
-use crate::print::from32;
-use crate::print::record;
-use crate::print::refusal;
-use crate::print::slot;
-use crate::stores::axes;
 use package::Package;
+use worked::fields::GREATEST;
+use worked::fields::LEAST;
+use worked::print::answer;
+use worked::print::call;
+use worked::print::end;
+use worked::print::from16;
+use worked::print::from32;
+use worked::print::record;
+use worked::print::slot;
+use worked::stores;
 
 // EV, value
 const EMPIRICAL_VALUES: [[i64; 2]; 19] = [
@@ -104,10 +104,10 @@ fn empirical_values(p: Package, cases: &[[i64; 2]]) -> Package {
 }
 
 fn empirical_value(p: Package, ev: i64, value: i64) -> Package {
-    let answer = records::set_empirical(p, ev, value);
-    let after = answer.after;
+    let a = records::set_empirical(p, ev, value);
+    let after = a.after;
     call(b"E", &[ev, value]);
-    refusal(answer.refusal);
+    answer(a.refusal);
     let i = slot(ev, 20);
     if i < 20 {
         let memory = after.memory;
@@ -129,10 +129,10 @@ fn wears(p: Package, cases: &[[i64; 3]]) -> Package {
 }
 
 fn wear(p: Package, tool: i64, radius: i64, length: i64) -> Package {
-    let answer = records::set_wear(p, tool, radius, length);
-    let after = answer.after;
+    let a = records::set_wear(p, tool, radius, length);
+    let after = a.after;
     call(b"W", &[tool, radius, length]);
-    refusal(answer.refusal);
+    answer(a.refusal);
     let i = slot(tool, 32);
     if i < 32 {
         let w = after.tools[i];
@@ -155,15 +155,11 @@ fn offsets(p: Package, cases: &[[i64; 4]]) -> Package {
 }
 
 fn offset(p: Package, number: i64, v1: i64, v2: i64, v3: i64) -> Package {
-    let answer = records::set_offset(p, number, v1, v2, v3);
-    let after = answer.after;
+    let a = records::set_offset(p, number, v1, v2, v3);
+    let after = a.after;
     call(b"O", &[number, v1, v2, v3]);
-    refusal(answer.refusal);
-    let i = slot(number, 4);
-    if i < 4 {
-        let o = after.offsets[i];
-        axes(o);
-    }
+    answer(a.refusal);
+    stores::offset(after, number);
     end();
     after
 }

@@ -9,6 +9,9 @@ Inv-loop c q₀ i₀ q i = Unit {0}
 abbrev μ-loop : tie.MeasureT-loop
 μ-loop c q₀ i₀ q i = 3 - i
 
+groove-requires : tie.Need-groove-requires Inv-loop μ-loop
+groove-requires c κs = search needs
+
 with-requires : tie.Need-with-requires Inv-loop μ-loop
 with-requires c κs = search needs
 
@@ -54,6 +57,7 @@ equal-parts-spec =
     (tie.spec
     Inv-loop
     μ-loop
+    groove-requires
     with-requires
     with-requires-2
     with-requires-3

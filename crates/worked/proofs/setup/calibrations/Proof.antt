@@ -1,0 +1,50 @@
+use Prim.Native.Nat.{_-_}
+use lib.ListN.{length}
+use borrow.Author.Needs.{needs}
+use Rattle.worked.proofs.setup.calibrations.Statement.{statement}
+use Rattle.worked.proofs.setup.calibrations.Tie as tie
+
+abbrev Inv-loop : tie.InvT-loop
+Inv-loop cases q₀ i₀ q i = Unit {0}
+
+abbrev μ-loop : tie.MeasureT-loop
+μ-loop cases q₀ i₀ q i = length cases - i
+
+loop-holds : tie.Need-loop-holds Inv-loop μ-loop
+loop-holds c = search needs
+
+mul-c : tie.Need-mul-c Inv-loop μ-loop
+mul-c c = search needs
+
+shared-slice-copy-out-c : tie.Need-shared-slice-copy-out-c Inv-loop μ-loop
+shared-slice-copy-out-c c = search needs
+
+calibration-requires : tie.Need-calibration-requires Inv-loop μ-loop
+calibration-requires c κs = search needs
+
+add-i : tie.Need-add-i Inv-loop μ-loop
+add-i c = search needs
+
+loop-less : tie.Need-loop-less Inv-loop μ-loop
+loop-less c = search needs
+
+loop-again : tie.Need-loop-again Inv-loop μ-loop
+loop-again c = search needs
+
+returns : tie.Need-returns Inv-loop μ-loop
+returns c = search needs
+
+pub calibrations-spec : {M : Type 1} → statement M
+calibrations-spec =
+    tie.close
+    (tie.spec
+    Inv-loop
+    μ-loop
+    loop-holds
+    mul-c
+    shared-slice-copy-out-c
+    calibration-requires
+    add-i
+    loop-less
+    loop-again
+    returns)

@@ -1,0 +1,58 @@
+use Prim.Native.Nat.{_-_}
+use lib.ListN.{length}
+use borrow.Author.Needs.{needs}
+use Rattle.worked_limits.proofs.refusals.each_room.Statement.{statement}
+use Rattle.worked_limits.proofs.refusals.each_room.Tie as tie
+
+abbrev Inv-loop : tie.InvT-loop
+Inv-loop p kind cases i₀ i = Unit {0}
+
+abbrev μ-loop : tie.MeasureT-loop
+μ-loop p kind cases i₀ i = length cases - i
+
+loop-holds : tie.Need-loop-holds Inv-loop μ-loop
+loop-holds c = search needs
+
+mul-c : tie.Need-mul-c Inv-loop μ-loop
+mul-c c = search needs
+
+shared-slice-copy-out-c : tie.Need-shared-slice-copy-out-c Inv-loop μ-loop
+shared-slice-copy-out-c c = search needs
+
+array-read-room-line : tie.Need-array-read-room-line Inv-loop μ-loop
+array-read-room-line c = search needs
+
+array-read-room-line-2 : tie.Need-array-read-room-line-2 Inv-loop μ-loop
+array-read-room-line-2 c = search needs
+
+room-line-requires : tie.Need-room-line-requires Inv-loop μ-loop
+room-line-requires c κs = search needs
+
+add-i : tie.Need-add-i Inv-loop μ-loop
+add-i c = search needs
+
+loop-less : tie.Need-loop-less Inv-loop μ-loop
+loop-less c = search needs
+
+loop-again : tie.Need-loop-again Inv-loop μ-loop
+loop-again c = search needs
+
+returns : tie.Need-returns Inv-loop μ-loop
+returns c = search needs
+
+pub each-room-spec : {M : Type 1} → statement M
+each-room-spec =
+    tie.close
+    (tie.spec
+    Inv-loop
+    μ-loop
+    loop-holds
+    mul-c
+    shared-slice-copy-out-c
+    array-read-room-line
+    array-read-room-line-2
+    room-line-requires
+    add-i
+    loop-less
+    loop-again
+    returns)
