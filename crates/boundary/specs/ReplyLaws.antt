@@ -11,7 +11,8 @@ use borrow.Author.Tests.{ne-eqb, eq-eqb}
 use Rattle.package.specs.declared.Package.{Package}
 use Rattle.package.specs.declared.Measured.{Measured}
 use Rattle.rules.specs.Refusals.{Rule, first}
-use Rattle.rules.specs.Results.{refusedResults, written}
+use Rattle.lists.specs.Written.{written}
+use Rattle.rules.specs.Results.{refusedResults}
 use Rattle.rules.specs.Calls.{Call, refusal, done, step}
 use Rattle.results.specs.Results.{refusedOutcome, answerOf}
 use Rattle.results.specs.declared.Outcome.{Outcome}
