@@ -50,6 +50,13 @@ module _ {area numbers results : List ℤ} {place : ℕ} (t : Measurement area n
   pub wrong-area : (length area ≡ 137 → ⊥) → {r : Decision} → r ≡ undecided 100 → reply r area results ≡ wanted
   wrong-area n e = rw (e, not-whole area n)
 
+  -- the area after it
+  area-left : stored (t .measured .refusal) (renewedBy area (t .measured .after) (t .call)) area ≡ stored (t .measured .refusal) (renewed area (t .call)) area
+  unfolding step renewed
+  area-left =
+      let p = unpacked area in
+      rw (t .answered .1, t .answered .0) (sym (left-stored area (renewed area (t .call)) p (done p (t .call)) (t .call) refl (refusal p (t .call))))
+
   module _ (right : length area ≡ 137) where
     pub wrong-arguments : (length numbers ≡ t .count → ⊥) → {r : Decision} → r ≡ undecided 101 → reply r area results ≡ wanted
     wrong-arguments n e = rw (e, whole area right, ne-eqb (length numbers) (t .count) n)
@@ -57,13 +64,8 @@ module _ {area numbers results : List ℤ} {place : ℕ} (t : Measurement area n
     module _ (enough : length numbers ≡ t .count) where
       found-reply : {found : Measured} {after new : List ℤ} → (found ≡ t .measured) × (after ≡ t .array)
           → new ≡ stored (found .refusal) (renewedBy area (found .after) (t .call)) area → reply (decided found) new after ≡ wanted
-      unfolding step renewed
       found-reply e h =
-          let m = t .measured in
-          let p = unpacked area in
-          let new : stored (m .refusal) (renewedBy area (m .after) (t .call)) area ≡ stored (m .refusal) (renewed area (t .call)) area =
-          rw (t .answered .1, t .answered .0) (sym (left-stored area (renewed area (t .call)) p (done p (t .call)) (t .call) refl (refusal p (t .call)))) in
-          rw (h, e .0, e .1, whole area right, eq-eqb (length numbers) (t .count) enough) (ap (λ (zs : List ℤ). reply (decided m) zs (t .array)) new)
+          rw (h, e .0, e .1, whole area right, eq-eqb (length numbers) (t .count) enough) (ap (λ (zs : List ℤ). reply (decided (t .measured)) zs (t .array)) area-left)
 
       pub no-room : leb (place + 42) (length results) ≡ false → {r : Decision} → r ≡ undecided 1 → reply r area results ≡ wanted
       no-room h e = rw e (found-reply (t .without-room h) refl)
