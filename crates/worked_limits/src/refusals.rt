@@ -9,7 +9,6 @@ use worked::call::each_zero;
 use worked::call::tool_of;
 use worked::call::zero_of;
 use worked::fields::AXIS;
-use worked::fields::Call;
 use worked::fields::K;
 use worked::fields::KIND;
 use worked::fields::MV;
