@@ -1,9 +1,7 @@
 // What measurements answer at their limits: each boundary from both sides, each branch, and each refusal against its neighbours. One package goes through
 // all of them, so that a refused call stands between others and has to leave what they left.
 //
-// A line is as worked_measuring has it, or
-//   room,length,place,kind: refusal branch verdict array v v ..   the whole array; its numbers were 1001, 1002, .. before the call
-//   W, offset: the setting of a wear and its refusal; a zero offset
+// A line is as worked_measuring has it; W is the setting of a wear and its refusal, offset a zero offset.
 mod bounds;
 mod branches;
 mod refusals;
@@ -24,7 +22,6 @@ fn main() {
     let p = branches::unused_fields(p);
     let p = branches::both_axes(p);
     let p = refusals::in_order(p);
-    refusals::room(p);
     bounds::foreign_records(p);
     stores::memory(p);
     stores::wears(p);

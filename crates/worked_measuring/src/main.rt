@@ -1,9 +1,10 @@
-// What measurements answer: document 01's own figures, every kind, the manual's table of means and a long series. One package goes through all of them,
-// so that a refused call stands between others and has to leave what they left.
+// What measurements answer: document 01's own figures, every kind, each place of the result array, the manual's table of means and a long series. One
+// package goes through all of them, so that a refused call stands between others and has to leave what they left.
 //
 // A line is the call as a job writes it, or a word and its numbers; a colon; refusal, branch and verdict; and what the call left, each by its name:
 //   T,<21 fields>: refusal branch verdict MV m wear radius length OVR place=v .. OVI place=v ..
 //   Z,<13 fields>: refusal branch verdict axes v v v OVR place=v .. OVI place=v ..
+//   room,length,place,kind: refusal branch verdict array v v ..   the whole array; its numbers were 1001, 1002, .. before the call
 //   part,number,k: refusal branch verdict D d MV m c c radius w exact x manual x   a part of a series
 // MV is the mean that is named, wear the tool's, axes those of the zero offset; a number outside its store shows none. OVR and OVI are the numbers
 // of the result array that are not 0, each with its place; all were 77 before the call. exact is the exact reckoning's N/P and manual the manual's
@@ -16,6 +17,7 @@
 //   memory, wears, probe: a store; wears has the tools with a wear that is not 0
 mod job;
 mod kinds;
+mod room;
 mod series;
 
 fn main() {
@@ -24,5 +26,6 @@ fn main() {
     let p = job::worked_values(p);
     let p = kinds::every_kind(p);
     let p = kinds::directions(p);
+    room::every(p);
     series::every(p);
 }

@@ -2,8 +2,8 @@ use mathlib.Core.Path.{sym}
 use native.Mathlib.Omega.{arith}
 use lib.Seq.{length-take-le}
 use borrow.Author.Needs.{needs}
-use Rattle.worked_limits.proofs.refusals.room_line.Statement.{statement}
-use Rattle.worked_limits.proofs.refusals.room_line.Tie as tie
+use Rattle.worked_measuring.proofs.room.line.Statement.{statement}
+use Rattle.worked_measuring.proofs.room.line.Tie as tie
 
 counted-requires : tie.Need-counted-requires
 counted-requires c κs = search needs
@@ -59,8 +59,8 @@ end-requires c κs = search needs
 returns-2 : tie.Need-returns-2
 returns-2 c = search needs
 
-pub room-line-spec : {M : Type 1} → statement M
-room-line-spec =
+pub line-spec : {M : Type 1} → statement M
+line-spec =
     tie.close
     (tie.spec
     counted-requires

@@ -2,8 +2,8 @@ use Prim.Native.Nat.{_-_}
 use mathlib.Core.Path.{_≡_}
 use lib.ListN.{length}
 use borrow.Author.Needs.{needs}
-use Rattle.worked_limits.proofs.refusals.counted.Statement.{statement}
-use Rattle.worked_limits.proofs.refusals.counted.Tie as tie
+use Rattle.worked_measuring.proofs.room.counted.Statement.{statement}
+use Rattle.worked_measuring.proofs.room.counted.Tie as tie
 
 abbrev Inv-loop : tie.InvT-loop
 Inv-loop results₀ i₀ results i = 50 ≡ length results

@@ -1,8 +1,8 @@
 use Prim.Native.Nat.{_-_}
 use lib.ListN.{length}
 use borrow.Author.Needs.{needs}
-use Rattle.worked_limits.proofs.refusals.each_room.Statement.{statement}
-use Rattle.worked_limits.proofs.refusals.each_room.Tie as tie
+use Rattle.worked_measuring.proofs.room.each.Statement.{statement}
+use Rattle.worked_measuring.proofs.room.each.Tie as tie
 
 abbrev Inv-loop : tie.InvT-loop
 Inv-loop p kind cases i₀ i = Unit {0}
@@ -19,14 +19,14 @@ mul-c c = search needs
 shared-slice-copy-out-c : tie.Need-shared-slice-copy-out-c Inv-loop μ-loop
 shared-slice-copy-out-c c = search needs
 
-array-read-room-line : tie.Need-array-read-room-line Inv-loop μ-loop
-array-read-room-line c = search needs
+array-read-line : tie.Need-array-read-line Inv-loop μ-loop
+array-read-line c = search needs
 
-array-read-room-line-2 : tie.Need-array-read-room-line-2 Inv-loop μ-loop
-array-read-room-line-2 c = search needs
+array-read-line-2 : tie.Need-array-read-line-2 Inv-loop μ-loop
+array-read-line-2 c = search needs
 
-room-line-requires : tie.Need-room-line-requires Inv-loop μ-loop
-room-line-requires c κs = search needs
+line-requires : tie.Need-line-requires Inv-loop μ-loop
+line-requires c κs = search needs
 
 add-i : tie.Need-add-i Inv-loop μ-loop
 add-i c = search needs
@@ -40,8 +40,8 @@ loop-again c = search needs
 returns : tie.Need-returns Inv-loop μ-loop
 returns c = search needs
 
-pub each-room-spec : {M : Type 1} → statement M
-each-room-spec =
+pub each-spec : {M : Type 1} → statement M
+each-spec =
     tie.close
     (tie.spec
     Inv-loop
@@ -49,9 +49,9 @@ each-room-spec =
     loop-holds
     mul-c
     shared-slice-copy-out-c
-    array-read-room-line
-    array-read-room-line-2
-    room-line-requires
+    array-read-line
+    array-read-line-2
+    line-requires
     add-i
     loop-less
     loop-again
