@@ -142,12 +142,17 @@ fn missing(p: Package, place: usize) -> Package
 {
     let p = calibrated_but(p, &PROBE_3, place);
     call(b"missing", &[place as i64]);
-    name(b"T");
-    tool_refusals(p);
-    name(b"Z");
-    zero_refusals(p);
-    end();
+    refusals(p);
     p
+}
+
+// Of each part, with tool and with zero offset.
+fn refusals(p: Package) {
+    name(b"T");
+    tool_refusals(p, &PARTS);
+    name(b"Z");
+    zero_refusals(p, &PARTS);
+    end();
 }
 
 // Calibrates the directions of a table but the one at this place.
@@ -168,10 +173,10 @@ fn calibrated_but(p: Package, directions: &[[i64; 7]], place: usize) -> Package 
     q
 }
 
-fn tool_refusals(p: Package) {
+fn tool_refusals(p: Package, parts: &[[i64; 9]]) {
     let mut i: usize = 0;
-    while i < 12 {
-        let c = PARTS[i];
+    while i < parts.len() {
+        let c = parts[i];
         tool_refusal(p, c);
         i += 1;
     }
@@ -186,10 +191,10 @@ fn tool_refusal(p: Package, part: [i64; 9]) {
     answer(m.refusal);
 }
 
-fn zero_refusals(p: Package) {
+fn zero_refusals(p: Package, parts: &[[i64; 9]]) {
     let mut i: usize = 0;
-    while i < 12 {
-        let c = PARTS[i];
+    while i < parts.len() {
+        let c = parts[i];
         zero_refusal(p, c);
         i += 1;
     }

@@ -1,13 +1,14 @@
 use Prim.Native.Nat.{_-_}
+use lib.ListN.{length}
 use borrow.Author.Needs.{needs}
 use Rattle.worked_measuring.proofs.kinds.tool_refusals.Statement.{statement}
 use Rattle.worked_measuring.proofs.kinds.tool_refusals.Tie as tie
 
 abbrev Inv-loop : tie.InvT-loop
-Inv-loop p i₀ i = Unit {0}
+Inv-loop p parts i₀ i = Unit {0}
 
 abbrev μ-loop : tie.MeasureT-loop
-μ-loop p i₀ i = 12 - i
+μ-loop p parts i₀ i = length parts - i
 
 loop-holds : tie.Need-loop-holds Inv-loop μ-loop
 loop-holds c = search needs
@@ -15,8 +16,8 @@ loop-holds c = search needs
 mul-c : tie.Need-mul-c Inv-loop μ-loop
 mul-c c = search needs
 
-array-copy-out-c : tie.Need-array-copy-out-c Inv-loop μ-loop
-array-copy-out-c c = search needs
+shared-slice-copy-out-c : tie.Need-shared-slice-copy-out-c Inv-loop μ-loop
+shared-slice-copy-out-c c = search needs
 
 tool-refusal-requires : tie.Need-tool-refusal-requires Inv-loop μ-loop
 tool-refusal-requires c κs = search needs
@@ -41,7 +42,7 @@ tool-refusals-spec =
     μ-loop
     loop-holds
     mul-c
-    array-copy-out-c
+    shared-slice-copy-out-c
     tool-refusal-requires
     add-i
     loop-less
