@@ -7,17 +7,15 @@ use native.Mathlib.Nat.{not-suc-le-zero, le-of-suc-le-suc}
 use native.Mathlib.Omega.{arith}
 use lib.IntN.{ℤ, pos}
 use lib.ListN.{length, getD, set, take, drop, length-append, length-drop, List·getD-map}
-use lib.Seq.{getD-set-same, getD-take, getD-drop, take-take, take-add, take-at, drop-at, take-append-le, take-append-add, drop-append-le, drop-drop, length-take-le}
+use lib.Seq.{getD-take, getD-drop, take-take, take-add, take-at, drop-at, take-append-le, take-append-add, drop-append-le, drop-drop, length-take-le}
 use borrow.Rule.Slice.PartMut.{putMid}
 use Rattle.signed.specs.Ranges.{minus}
 use Rattle.signed.specs.RangeLaws.{nearest-itself}
 use Rattle.lists.specs.Written.{written}
 use Rattle.lists.specs.WrittenLaws.{written-drop, written-set}
-use Rattle.package.specs.declared.Probe.{Probe}
-use Rattle.rules.specs.Stores.{probeOf, withProbe}
-use Rattle.area.specs.Area.{probeNumbers, valueFrom, probeFrom, store, section, unpacked}
-use Rattle.area.specs.LoopLaws.{store-length, store-at}
-use Rattle.area.specs.Renewed.{probeRenewed}
+use Rattle.rules.specs.Stores.{probeOf}
+use Rattle.area.specs.Area.{valueFrom, probeFrom, store, section, unpacked}
+use Rattle.area.specs.LoopLaws.{store-at}
 
 pub put-written : (zs ys : List ℤ) (at k : ℕ) → length ys ≡ k → putMid at (at + k - at) zs ys ≡ written zs at ys
 unfolding written
@@ -63,14 +61,6 @@ value-at zs at i h =
 pub probe-at : (zs : List ℤ) (i : ℕ) → i < 3 → probeFrom (take (7 * i + 7 - 7 * i) (drop (7 * i) zs)) ≡ probeOf (unpacked zs) (pos (suc i))
 unfolding unpacked
 probe-at zs i h = record-at probeFrom 7 zs 0 3 i (7 * i) (record { triggers = []; status = 0 }) (omega arith) h
-
-pub probe-renewed : (zs : List ℤ) (i : ℕ) (x : Probe) → i < 3 →
-    written zs (7 * i) (probeNumbers x) ≡ probeRenewed zs (withProbe (unpacked zs) (pos (suc i)) x) (pos (suc i))
-unfolding unpacked
-probe-renewed zs i x h =
-    let e : 0 + 7 * i ≡ 7 * i = omega arith in
-    let n = store-length probeFrom 7 3 (take 21 zs) in
-    rw (e, getD-set-same (store probeFrom 7 3 (take 21 zs)) i x (record { triggers = []; status = 0 }) (omega arith))
 
 -- ---- sections of an area some of whose numbers are replaced
 drop-take : (zs : List ℤ) (a n : ℕ) → a ≤ length zs → drop a (take (a + n) zs) ≡ take n (drop a zs)

@@ -8,23 +8,25 @@ use lib.ListN.{length, getD, set, take, drop, length-append, length-set, drop-of
 use lib.Seq.{set-split, take-set-lt, getD-take, getD-drop, length-take-le}
 use borrow.Rule.Slice.PartMut.{putMid, put-same}
 use borrow.Author.Tests.{ne-eqb}
+use Rattle.lists.specs.Written.{written}
 use Rattle.package.specs.declared.Probe.{Probe}
 use Rattle.package.specs.declared.Calibration.{Calibration}
 use Rattle.rules.specs.Refusals.{first}
-use Rattle.rules.specs.Stores.{probeOf, withProbe}
+use Rattle.rules.specs.Stores.{probeOf}
 use Rattle.rules.specs.StoreLaws.{length-put}
 use Rattle.rules.specs.Probes.{placeOf}
 use Rattle.rules.specs.Calibration.{calibrationArguments}
-use Rattle.rules.specs.Calls.{calibrate}
+use Rattle.rules.specs.Calls.{calibrate, done}
 use Rattle.probes.specs.declared.Calibrated.{Calibrated}
 use Rattle.probes.specs.Calibrated.{calibratedWith, directionCalibrated, withDirection}
-use Rattle.probes.specs.CalibratedLaws.{probe-done, refusal-is}
-use Rattle.area.specs.Area.{probeNumbers, probeFrom, statusFrom, unpacked}
-use Rattle.area.specs.Renewed.{probeRenewed, renewedBy, stored, Left, left, called}
+use Rattle.probes.specs.CalibratedLaws.{numbers-passed, probe-done, refusal-is}
+use Rattle.area.specs.Area.{probesAt, probeNumbers, probeFrom, statusFrom, unpacked}
+use Rattle.area.specs.Renewed.{replacedAt, renewedBy, stored, Left, left, called}
 use Rattle.boundary.specs.Exports.{partCalibrated}
 use Rattle.boundary.specs.ExportLaws.{call-done, call-refused}
 use Rattle.area.specs.LoopLaws.{part-long}
-use Rattle.area.specs.SectionLaws.{put-written, probe-at, probe-renewed}
+use Rattle.area.specs.SectionLaws.{put-written, probe-at}
+use Rattle.area.specs.RecordLaws.{probes-long, probe-put}
 
 -- ---- the 7 numbers
 module _ (part : List ℤ) (a : Calibration) (at : ℕ) (long : length part ≡ 7) (low : at < 6) (place : placeOf (a .axis) (a .direction) ≡ suc at) where
@@ -87,9 +89,12 @@ module _ (zs : List ℤ) (i : ℕ) (low : i < 3) where
     by-refusal zero e =
         let p = unpacked zs in
         let f = found-refusal 0 e in
+        let at : 7 * i ≡ 0 + 7 * i = omega arith in
+        let new : probeOf (done p (calibrate a)) (a .probe) ≡ after (probeFrom part) =
+        probe-put p (a .probe) _ (probes-long zs) (numbers-passed a passed .0) ∙ probe-done (probeOf p (a .probe)) a f ∙ ap after (sym probe-is) in
         call-done zs right (calibrate a) (refusal-is p a passed ∙ f)
-        (put-written zs (probeNumbers (after (probeFrom part))) (7 * i) 7 numbers-long ∙ probe-renewed zs i (after (probeFrom part)) low
-        ∙ ap₂ (λ (n : ℤ) (x : Probe). probeRenewed zs (withProbe p n x) n) (sym probe) (ap after probe-is ∙ sym (probe-done (probeOf p (a .probe)) a f)))
+        (put-written zs (probeNumbers (after (probeFrom part))) (7 * i) 7 numbers-long ∙ ap (λ (k : ℕ). written zs k (probeNumbers (after (probeFrom part)))) at
+        ∙ ap₂ (λ (n : ℤ) (x : Probe). replacedAt zs probesAt 7 n (probeNumbers x)) (sym probe) (sym new))
     by-refusal (suc n) e =
         rw (ne-eqb (suc n) 0 (λ q. omega arith), put-same (7 * i) (7 * i + 7 - 7 * i) zs)
         (call-refused zs right (calibrate a) (sym (refusal-is (unpacked zs) a passed ∙ found-refusal (suc n) e)) (λ q. omega (arith, q)))
