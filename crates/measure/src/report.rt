@@ -38,7 +38,7 @@ fn wrong_job(job: &[u8], path: &[u8])
     );
 }
 
-// Why a job was refused, by 11 or 12.
+// Why a job was refused, by 11 or 12. No call of a user.
 pub fn refused(refusal: u32, job: &[u8], path: &[u8])
     requires { ⌜ (length (now job) ≡ 0 → refusal ≡ 11) ⌝ }
 {

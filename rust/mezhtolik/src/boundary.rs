@@ -157,16 +157,20 @@ pub fn probe_status(area: &[i32], probe: i64) -> RawStatus {
     unsafe { mezhtolik_probe_status(area.as_ptr(), area.len(), probe) }
 }
 
-/// Measures with tool offset; the 21 arguments in the order of a T line.
+/// One of the two calls that measure.
+type Measure =
+    unsafe extern "C" fn(*mut i32, usize, *const i64, usize, *mut i32, usize, usize) -> RawDecision;
+
 #[inline]
-pub fn measure_tool(
+fn measure(
+    call: Measure,
     area: &mut [i32],
     arguments: &[i64],
     results: &mut [i32],
     place: usize,
 ) -> RawDecision {
     unsafe {
-        mezhtolik_measure_tool(
+        call(
             area.as_mut_ptr(),
             area.len(),
             arguments.as_ptr(),
@@ -178,6 +182,17 @@ pub fn measure_tool(
     }
 }
 
+/// Measures with tool offset; the 21 arguments in the order of a T line.
+#[inline]
+pub fn measure_tool(
+    area: &mut [i32],
+    arguments: &[i64],
+    results: &mut [i32],
+    place: usize,
+) -> RawDecision {
+    measure(mezhtolik_measure_tool, area, arguments, results, place)
+}
+
 /// Measures with zero offset; the 13 arguments in the order of a Z line.
 #[inline]
 pub fn measure_zero(
@@ -186,17 +201,7 @@ pub fn measure_zero(
     results: &mut [i32],
     place: usize,
 ) -> RawDecision {
-    unsafe {
-        mezhtolik_measure_zero(
-            area.as_mut_ptr(),
-            area.len(),
-            arguments.as_ptr(),
-            arguments.len(),
-            results.as_mut_ptr(),
-            results.len(),
-            place,
-        )
-    }
+    measure(mezhtolik_measure_zero, area, arguments, results, place)
 }
 
 /// Replaces all empirical and mean values by those of a block.
