@@ -1,0 +1,67 @@
+use mathlib.Core.Path.{_≡_, ap, _∙_}
+use mathlib.Core.Bool.{true}
+use native.Mathlib.Omega.{arith}
+use mir.Syntax.{w32}
+use mir.Facts.{toZ-ofZ}
+use borrow.Author.Needs.{needs}
+use Rattle.signed.specs.CodeLaws.{read-as, failed, passed}
+use Rattle.signed.specs.RangeLaws.{or-zero}
+use Rattle.rules.specs.Stores.{probeNumber}
+use Rattle.rules.specs.Status.{statusAnswer}
+use Rattle.area.specs.Table.{statusFrom}
+use Rattle.calibrating.specs.StatusLaws.{status-wrong, status-refused, status-done}
+use Rattle.calibrating.proofs.probe_status.Statement.{statement}
+use Rattle.calibrating.proofs.probe_status.Tie as tie
+
+no-status-requires : tie.Need-no-status-requires
+no-status-requires c κs = search needs
+
+returns : tie.Need-returns
+returns c = let s = c .before .before in c .no-status .ensures ∙ status-wrong (s .args .area .now) (c .before .if1 .taken) (s .args .probe)
+
+in-range-requires : tie.Need-in-range-requires
+in-range-requires c κs = search needs
+
+number : (c : tie.After-in-range) → c .in-range .result ≡ probeNumber (c .before .before .args .probe)
+number c = rw (toZ-ofZ (c .before .before .fits .probe)) at (c .in-range .ensures)
+
+no-status-requires-2 : tie.Need-no-status-requires-2
+no-status-requires-2 c κs = search needs
+
+returns-2 : tie.Need-returns-2
+returns-2 c =
+    let t = c .before in
+    let e = t .before .before in
+    let s = e .before in
+    c .no-status2 .ensures ∙ status-refused (s .args .area .now) (e .if1 .left) (s .args .probe) (failed (number (t .before)) (t .if2 .taken))
+
+allowed : (c : tie.Else2) → probeNumber (c .before .before .before .args .probe) ≡ true
+allowed c = passed (number (c .before)) (c .if2 .left)
+
+number-at-requires : tie.Need-number-at-requires
+number-at-requires c κs =
+    let e = c .before .before in
+    (omega (arith, e .if1 .left), (rw (toZ-ofZ (e .before .fits .probe)) (or-zero 3 (e .before .args .probe) (allowed c)), omega arith))
+
+status-from-requires : tie.Need-status-from-requires
+status-from-requires c κs = search needs
+
+status-answer-requires : tie.Need-status-answer-requires
+status-answer-requires c κs = search needs
+
+returns-3 : tie.Need-returns-3
+returns-3 c =
+    let f = c .before in
+    let n = f .before in
+    let t = n .before in
+    let e = t .before .before in
+    let s = e .before in
+    let number-is = read-as w32 (n .number-at .result) (n .number-at .ok) ∙ rw (toZ-ofZ (s .fits .probe)) at (n .number-at .ensures) in
+    c .status-answer .ensures
+    ∙ ap statusAnswer (f .status-from .ensures ∙ ap statusFrom number-is)
+    ∙ status-done (s .args .area .now) (e .if1 .left) (s .args .probe) (allowed t)
+
+pub probe-status-spec : {M : Type 1} → statement M
+probe-status-spec =
+    tie.close
+    (tie.spec no-status-requires returns in-range-requires no-status-requires-2 returns-2 number-at-requires status-from-requires status-answer-requires returns-3)

@@ -1,0 +1,3 @@
+pub mod StatusRead
+pub mod StatusLaws
+pub mod CalibrateLaws

@@ -1,0 +1,68 @@
+// A calibration and a status read, in place on the area that the caller lends. Document 01, 'Calibration'.
+use area::AREA;
+use area::PROBES;
+use area::WRONG_AREA;
+use area::status_from;
+use layout::number_at;
+use layout::put_number;
+use package::Calibration;
+use package::DONE;
+use package::NO_SUCH_NUMBER;
+use package::Status;
+use probes::calibrate_direction;
+use probes::calibration_refusal;
+use probes::place_of;
+use probes::status_answer;
+use signed::in_range;
+ghost use mathlib.Core.Path.{_≡_};
+ghost use Rattle.rules.specs.Calls.{calibrate};
+ghost use Rattle.area.specs.Called.{left, called};
+ghost use Rattle.calibrating.specs.StatusRead.{noStatus, statusCalled};
+
+// Calibrates one direction of a probe.
+pub fn calibrate(area: &mut [i32], a: Calibration) -> u32
+    ensures { λ r. ⌜ left r (now (area .exit)) ≡ called (now (area .entry)) (calibrate a) ⌝ }
+{
+    if area.len() != AREA {
+        return WRONG_AREA;
+    }
+    let refusal = calibration_refusal(a);
+    if refusal != DONE {
+        return refusal;
+    }
+    let probe = a.probe;
+    let place = place_of(a.axis, a.direction);
+    let trigger = number_at(&area[..], PROBES, probe, place - 1);
+    let status = status_from(number_at(&area[..], PROBES, probe, 6));
+    let c = calibrate_direction(trigger, status, place, a);
+    if c.refusal != DONE {
+        return c.refusal;
+    }
+    put_number(area, PROBES, probe, place - 1, c.trigger);
+    put_number(area, PROBES, probe, 6, c.status as i32);
+    DONE
+}
+
+// A status read that is refused.
+fn no_status(refusal: u32) -> Status
+    ensures { λ r. ⌜ r ≡ noStatus refusal ⌝ }
+{
+    Status {
+        refusal,
+        bits: 0,
+        count: 0,
+    }
+}
+
+// The bits of a probe's status and the number of directions calibrated.
+pub fn probe_status(area: &[i32], probe: i64) -> Status
+    ensures { λ r. ⌜ r ≡ statusCalled (now (area .entry)) probe ⌝ }
+{
+    if area.len() != AREA {
+        return no_status(WRONG_AREA);
+    }
+    if !in_range(probe, 1, package::PROBES) {
+        return no_status(NO_SUCH_NUMBER);
+    }
+    status_answer(status_from(number_at(area, PROBES, probe, 6)))
+}

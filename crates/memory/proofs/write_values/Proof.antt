@@ -1,0 +1,101 @@
+use mathlib.Core.Path.{_≡_, ap, _∙_}
+use mathlib.Core.List.{List}
+use Prim.Native.Nat.{_-_, _≤_}
+use native.Mathlib.Numerals.{add-one}
+use native.Mathlib.Omega.{arith}
+use lib.IntN.{ℤ, pos}
+use lib.ListN.{length}
+use lib.Seq.{paste, paste-zero, paste-suc, length-paste, take-all}
+use mir.Syntax.{w16, w32}
+use Rattle.signed.specs.CodeLaws.{Widened, widened}
+use Rattle.lists.specs.Written.{written}
+use Rattle.rules.specs.Block.{words}
+use Rattle.rules.specs.BlockLaws.{length-words, words-at}
+use Rattle.memory.proofs.write_values.Statement.{statement}
+use Rattle.memory.proofs.write_values.Tie as tie
+
+abbrev Inv-loop : tie.InvT-loop
+Inv-loop area₀ at bytes i₀ area i = (i ≤ 20) × (area ≡ paste area₀ at (words bytes) i)
+
+abbrev μ-loop : tie.MeasureT-loop
+μ-loop area₀ at bytes i₀ area i = 20 - i
+
+module _ (c : tie.At-loop Inv-loop μ-loop) where
+  abbrev values : List ℤ
+  values = words (c .before .before .args .bytes .now)
+
+  twenty : length values ≡ 20
+  twenty = length-words 20 (c .before .before .args .bytes .now) (c .before .before .pre .1)
+
+  same : length (c .loop .area) ≡ length (c .before .before .args .area .now)
+  same =
+      let n = twenty in
+      ap length (c .loop .inv .1) ∙ length-paste (c .before .before .args .area .now) (c .before .before .args .at) values (c .loop .i) (omega (arith, c .before .before .pre .0)) (omega arith)
+
+loop-holds : tie.Need-loop-holds Inv-loop μ-loop
+loop-holds c = (omega arith, paste-zero (c .before .args .area .now) (c .before .args .at) (words (c .before .args .bytes .now)))
+
+mul-decode : tie.Need-mul-decode Inv-loop μ-loop
+mul-decode c = omega arith
+
+shared-slice-read-decode : tie.Need-shared-slice-read-decode Inv-loop μ-loop
+shared-slice-read-decode c = omega arith
+
+mul-decode-2 : tie.Need-mul-decode-2 Inv-loop μ-loop
+mul-decode-2 c = omega arith
+
+add-decode : tie.Need-add-decode Inv-loop μ-loop
+add-decode c = omega arith
+
+shared-slice-read-decode-2 : tie.Need-shared-slice-read-decode-2 Inv-loop μ-loop
+shared-slice-read-decode-2 c = omega arith
+
+decode-requires : tie.Need-decode-requires Inv-loop μ-loop
+decode-requires c κs = tt
+
+kept : (c : tie.After-decode Inv-loop μ-loop) → Widened w16 w32 (c .decode .result)
+kept c = widened w16 w32 (c .decode .result) tt (c .decode .ok)
+
+cast-area : tie.Need-cast-area Inv-loop μ-loop
+cast-area c = kept c .fits
+
+add-t7 : tie.Need-add-t7 Inv-loop μ-loop
+add-t7 c = omega arith
+
+mul-t10 : tie.Need-mul-t10 Inv-loop μ-loop
+mul-t10 c = omega arith
+
+slice-set-from-area : tie.Need-slice-set-from-area Inv-loop μ-loop
+slice-set-from-area c = let l = c .before .before .before .before in omega (arith, same l, l .before .before .pre .0)
+
+add-i : tie.Need-add-i Inv-loop μ-loop
+add-i c = omega arith
+
+loop-less : tie.Need-loop-less Inv-loop μ-loop
+loop-less c = omega arith
+
+loop-again : tie.Need-loop-again Inv-loop μ-loop
+loop-again c =
+    let l = c .before .before .before .before in
+    let s = l .before .before in
+    let n = twenty l in (
+      omega arith,
+      rw (l .loop .inv .1, kept c .value, c .decode .ensures, ← words-at (s .args .bytes .now) (l .loop .i) (omega (arith, s .pre .1)), add-one (l .loop .i))
+          (paste-suc (s .args .area .now) (s .args .at) (values l) (l .loop .i) (pos 0) (omega (arith, s .pre .0)) (omega arith)),
+    )
+
+same-length : tie.Need-same-length Inv-loop μ-loop
+same-length c = same (c .before)
+
+returns : tie.Need-returns Inv-loop μ-loop
+unfolding written
+returns c =
+    let l = c .before in
+    let e : l .loop .i ≡ length (values l) = omega (arith, twenty l) in
+    l .loop .inv .1 ∙ rw (e, take-all (length (values l)) (values l) (omega arith))
+
+pub write-values-spec : {M : Type 1} → statement M
+write-values-spec =
+    tie.close
+    (tie.spec Inv-loop μ-loop loop-holds mul-decode shared-slice-read-decode mul-decode-2 add-decode shared-slice-read-decode-2 decode-requires cast-area add-t7 mul-t10
+    slice-set-from-area add-i loop-less loop-again same-length returns)

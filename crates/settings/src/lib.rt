@@ -1,0 +1,86 @@
+// The fresh package and the settings, in place on the area that the caller lends. Document 01, 'Units and stores'.
+use area::AREA;
+use area::EMPIRICALS;
+use area::OFFSETS;
+use area::TOOLS;
+use area::WRONG_AREA;
+use layout::put_record;
+use package::DONE;
+use records::empirical_refusal;
+use records::offset_refusal;
+use records::wear_refusal;
+ghost use mathlib.Core.Path.{_≡_};
+ghost use lib.IntN.{pos};
+ghost use lib.ListN.{length, replicate};
+ghost use Rattle.rules.specs.Calls.{setEmpirical, setWear, setOffset};
+ghost use Rattle.area.specs.Called.{left, called, freshCalled};
+
+// Writes 0 to every number.
+fn clear(area: &mut [i32])
+    ensures { λ _. ⌜ now (area .exit) ≡ replicate (length (now (area .entry))) (pos 0) ⌝ }
+{
+    let mut i: usize = 0;
+    while i < area.len() {
+        area[i] = 0;
+        i += 1;
+    }
+}
+
+// Writes the fresh package, every record 0.
+pub fn fresh(area: &mut [i32]) -> u32
+    ensures { λ r. ⌜ left r (now (area .exit)) ≡ freshCalled (now (area .entry)) ⌝ }
+{
+    if area.len() != AREA {
+        return WRONG_AREA;
+    }
+    clear(area);
+    DONE
+}
+
+// Replaces one empirical value.
+pub fn set_empirical(area: &mut [i32], ev: i64, value: i64) -> u32
+    ensures { λ r. ⌜ left r (now (area .exit)) ≡ called (now (area .entry)) (setEmpirical ev value) ⌝ }
+{
+    if area.len() != AREA {
+        return WRONG_AREA;
+    }
+    let refusal = empirical_refusal(ev, value);
+    if refusal != DONE {
+        return refusal;
+    }
+    let numbers = [value as i32];
+    put_record(area, EMPIRICALS, ev, &numbers);
+    DONE
+}
+
+// Replaces one tool's two wears.
+pub fn set_wear(area: &mut [i32], tool: i64, radius: i64, length: i64) -> u32
+    ensures { λ r. ⌜ left r (now (area .exit)) ≡ called (now (area .entry)) (setWear tool radius length) ⌝ }
+{
+    if area.len() != AREA {
+        return WRONG_AREA;
+    }
+    let refusal = wear_refusal(tool, radius, length);
+    if refusal != DONE {
+        return refusal;
+    }
+    let numbers = [radius as i32, length as i32];
+    put_record(area, TOOLS, tool, &numbers);
+    DONE
+}
+
+// Replaces one zero offset on its three axes.
+pub fn set_offset(area: &mut [i32], offset: i64, v1: i64, v2: i64, v3: i64) -> u32
+    ensures { λ r. ⌜ left r (now (area .exit)) ≡ called (now (area .entry)) (setOffset offset v1 v2 v3) ⌝ }
+{
+    if area.len() != AREA {
+        return WRONG_AREA;
+    }
+    let refusal = offset_refusal(offset, v1, v2, v3);
+    if refusal != DONE {
+        return refusal;
+    }
+    let numbers = [v1 as i32, v2 as i32, v3 as i32];
+    put_record(area, OFFSETS, offset, &numbers);
+    DONE
+}
