@@ -1,0 +1,2 @@
+pub mod JobRules
+pub mod JobRuleLaws

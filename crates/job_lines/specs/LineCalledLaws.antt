@@ -1,0 +1,18 @@
+-- A line by the call that it says.
+use mathlib.Core.Path.{_≡_, ap, _∙_}
+use mathlib.Core.List.{List}
+use Prim.Native.Nat.{ℕ}
+use lib.IntN.{ℤ}
+use Rattle.rules.specs.Calls.{Call}
+use Rattle.area.specs.Called.{Called, called}
+use Rattle.job_text.specs.Lines.{Said, says}
+use Rattle.job_answers.specs.Answers.{row}
+use Rattle.job_answers.specs.declared.Row.{Row}
+use Rattle.job_lines.specs.LineCalled.{Ran, ranAs, lineRan}
+
+pub call-ran : (area : List ℤ) (n : ℕ) (c : Call) {s : Said} {a : Called} {r : Row} → a ≡ called area c → r ≡ row n (a .refusal) (a .evaluation) → says c ≡ s
+    → ranAs r (a .area) ≡ lineRan area n s
+call-ran area n c {a = a} e q k =
+    ap (λ (x : Row). ranAs x (a .area)) q
+    ∙ ap (λ (x : Called). ranAs (row n (x .refusal) (x .evaluation)) (x .area)) e
+    ∙ ap (lineRan area n) k
