@@ -16,8 +16,8 @@ use Rattle.package.specs.declared.Raws.{Raws}
 use Rattle.rules.specs.Stores.{positionRange, widthRange}
 use Rattle.rules.specs.Kinds.{kind}
 use Rattle.rules.specs.Sizes.{pairs, positionsOk}
-use Rattle.kinds.proofs.positions_ok.Statement.{statement}
-use Rattle.kinds.proofs.positions_ok.Tie as tie
+use Rattle.kind_tests.proofs.positions_ok.Statement.{statement}
+use Rattle.kind_tests.proofs.positions_ok.Tie as tie
 
 -- the test by the form
 abbrev inRange : List ℤ → Bool

@@ -9,11 +9,11 @@ use Rattle.package.specs.declared.Kind.{Kind}
 use Rattle.package.specs.declared.Probing.{Probing}
 use Rattle.rules.specs.Probes.{on, calibratedIn}
 use Rattle.rules.specs.Sizes.{Across, Touch, pairs, calibratedOk}
 use Rattle.kinds.specs.Touches.{Placed, across}
 use Rattle.kinds.specs.KindLaws.{plane-numbers, pairs-placed}
 use Rattle.kinds.proofs.Laws.{head-same, next-same}
-use Rattle.kinds.proofs.calibrated_ok.Statement.{statement}
-use Rattle.kinds.proofs.calibrated_ok.Tie as tie
+use Rattle.kind_tests.proofs.calibrated_ok.Statement.{statement}
+use Rattle.kind_tests.proofs.calibrated_ok.Tie as tie
 
 -- the test by the form
 module _ (status : ℕ) (k : Kind) (a : Probing) where
