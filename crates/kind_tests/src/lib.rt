@@ -87,9 +87,7 @@ pub fn calibrated_ok(x: Probe, k: Kind, a: Probing) -> bool
         Form::Single => pair_calibrated(x, single_pair(k, a)),
         Form::Double => {
             let both = both_pairs(k, a);
-            let first = both.first;
-            let second = both.second;
-            pair_calibrated(x, first) & pair_calibrated(x, second)
+            pair_calibrated(x, both.first) & pair_calibrated(x, both.second)
         }
     }
 }

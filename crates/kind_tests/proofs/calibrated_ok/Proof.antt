@@ -72,10 +72,10 @@ both-placed c =
     subst BothPlaced (c .both-pairs .ensures) (pairs-placed (s .args .k) (s .args .a) (s .pre))
 
 pair-calibrated-requires-2 : tie.Need-pair-calibrated-requires-2
-pair-calibrated-requires-2 c κs = both-placed (c .before .before) .0
+pair-calibrated-requires-2 c κs = both-placed c .0
 
 pair-calibrated-requires-3 : tie.Need-pair-calibrated-requires-3
-pair-calibrated-requires-3 c κs = both-placed (c .before .before .before) .1 .0
+pair-calibrated-requires-3 c κs = both-placed (c .before) .1 .0
 
 returns : tie.Need-returns
 returns c =
@@ -93,7 +93,7 @@ returns-2 c =
 
 returns-3 : tie.Need-returns-3
 returns-3 c =
-    let b = c .before .before .before .before in
+    let b = c .before .before in
     let e = b .before in
     let s = e .before .before in
     let both = b .both-pairs .result in
