@@ -70,7 +70,7 @@ pub fn positions_ok(k: Kind, a: Probing, q: Raws) -> bool
 
 // Whether both directions of a pair are calibrated.
 fn pair_calibrated(x: Probe, p: Across) -> bool
-    requires { ⌜ Placed (touch (p .low)) × Placed (touch (p .high)) ⌝ }
+    requires { ⌜ Placed (touch (p .low) .way) × Placed (touch (p .high) .way) ⌝ }
     ensures { λ r. ⌜ r ≡ every (λ t. calibratedIn (x .status) (t .way)) (touch (p .low) ∷ touch (p .high) ∷ []) ⌝ }
 {
     calibrated_in(x, p.low.axis, p.low.direction) & calibrated_in(x, p.high.axis, p.high.direction)

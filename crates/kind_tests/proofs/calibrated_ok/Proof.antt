@@ -53,7 +53,7 @@ single-pair-requires c κs = search needs
 
 -- where both ends of every pair stand
 abbrev BothPlaced : List Across → Type 0
-BothPlaced = Each (λ p. Placed (p .low) × Placed (p .high))
+BothPlaced = Each (λ p. Placed (p .low .way) × Placed (p .high .way))
 
 pair-calibrated-requires : tie.Need-pair-calibrated-requires
 pair-calibrated-requires c κs =
@@ -96,9 +96,10 @@ returns-3 c =
     let b = c .before .before in
     let e = b .before in
     let s = e .before .before in
-    let both = b .both-pairs .result in
+    let p = across (b .both-pairs .result .first) in
+    let q = across (b .both-pairs .result .second) in
     ap₂ _&&_ (c .before .pair-calibrated2 .ensures) (c .pair-calibrated3 .ensures)
-    ∙ sym (of-double (s .args .x .status) (s .args .k) (s .args .a) (across (both .first)) (across (both .second)) (e .enum-told3 .given .1) (b .both-pairs .ensures))
+    ∙ sym (of-double (s .args .x .status) (s .args .k) (s .args .a) p q (e .enum-told3 .given .1) (b .both-pairs .ensures))
 
 pub calibrated-ok-spec : {M : Type 1} → statement M
 calibrated-ok-spec =
