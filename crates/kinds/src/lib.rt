@@ -1,24 +1,15 @@
-// What a kind of measurement uses: the surfaces that it touches, and the tests of what it is given. Document 01, 'Measured sizes'.
-use package::AXES;
+// The kinds of measurement, and the surfaces that each touches. Document 01, 'Measured sizes'.
 use package::Form;
 use package::Kind;
-use package::POSITION_LIMIT;
-use package::PROBES;
-use package::Probe;
 use package::Probing;
-use package::Raws;
-use probes::calibrated_in;
-use signed::in_range;
 ghost use mathlib.Core.Path.{_≡_};
-ghost use mathlib.Core.Bool.{Bool, true};
+ghost use mathlib.Core.Bool.{Bool};
 ghost use mathlib.Core.List.{[], _∷_};
-ghost use Rattle.lists.specs.Each.{Each, every};
+ghost use Rattle.lists.specs.Each.{Each};
 ghost use Rattle.package.specs.declared.Form.the-variants.{Single, Double};
-ghost use Rattle.rules.specs.Stores.{positionRange, widthRange};
 ghost use Rattle.rules.specs.Kinds.{kind, toolKind};
-ghost use Rattle.rules.specs.Probes.{calibratedIn};
-ghost use Rattle.rules.specs.Sizes.{pairs, plane, numbersOk, positionsOk, calibratedOk};
-ghost use Rattle.kinds.specs.Touches.{touch, across, Placed};
+ghost use Rattle.rules.specs.Sizes.{pairs, plane};
+ghost use Rattle.kinds.specs.Touches.{touch, across};
 
 // A surface that is touched: its axis, the direction in which it is touched, and the number of its raw.
 pub struct Touch {
@@ -96,7 +87,7 @@ fn ways_of(k: Kind) -> Ways
 }
 
 // The set centre of a groove or web, by its axis.
-fn single_centre(a: Probing) -> i64
+pub fn single_centre(a: Probing) -> i64
     ensures { λ r. ⌜ ((inside : Bool) → Each (λ p. p .set ≡ r) (pairs (kind Single inside) a)) ⌝ }
 {
     let axis = a.axis;
@@ -161,76 +152,5 @@ pub fn both_pairs(k: Kind, a: Probing) -> Both
             },
             set: a.c2,
         },
-    }
-}
-
-// Whether the numbers that a kind uses are numbers of their stores.
-pub fn numbers_ok(k: Kind, a: Probing) -> bool
-    ensures { λ r. ⌜ r ≡ numbersOk k a ⌝ }
-{
-    let form = k.form;
-    let probe = in_range(a.probe, 1, PROBES);
-    match form {
-        Form::Plane => probe & (in_range(a.axis, 1, AXES) & in_range(a.direction, 0, 1)),
-        Form::Single => probe & in_range(a.axis, 1, 2),
-        Form::Double => probe,
-    }
-}
-
-fn position_ok(v: i64) -> bool
-    ensures { λ r. ⌜ r ≡ positionRange v ⌝ }
-{
-    in_range(v, -POSITION_LIMIT, POSITION_LIMIT)
-}
-
-fn both_ok(v: i64, w: i64) -> bool
-    ensures { λ r. ⌜ r ≡ every positionRange (v ∷ w ∷ []) ⌝ }
-{
-    position_ok(v) & position_ok(w)
-}
-
-fn width_ok(v: i64) -> bool
-    ensures { λ r. ⌜ r ≡ widthRange v ⌝ }
-{
-    in_range(v, 1, POSITION_LIMIT)
-}
-
-// Whether the used positions, set centres and setpoint are in range.
-pub fn positions_ok(k: Kind, a: Probing, q: Raws) -> bool
-    ensures { λ r. ⌜ r ≡ positionsOk k a q ⌝ }
-{
-    let form = k.form;
-    match form {
-        Form::Plane => position_ok(q.r1) & position_ok(a.setpoint),
-        Form::Single => both_ok(q.r1, q.r2) & position_ok(single_centre(a)) & width_ok(a.setpoint),
-        Form::Double => (both_ok(q.r1, q.r2) & both_ok(q.r3, q.r4))
-            & both_ok(a.c1, a.c2)
-            & width_ok(a.setpoint),
-    }
-}
-
-// Whether both directions of a pair are calibrated.
-fn pair_calibrated(x: Probe, p: Across) -> bool
-    requires { ⌜ Placed (touch (p .low)) × Placed (touch (p .high)) ⌝ }
-    ensures { λ r. ⌜ r ≡ every (λ t. calibratedIn (x .status) (t .way)) (touch (p .low) ∷ touch (p .high) ∷ []) ⌝ }
-{
-    calibrated_in(x, p.low.axis, p.low.direction) & calibrated_in(x, p.high.axis, p.high.direction)
-}
-
-// Whether every direction that a measurement needs is calibrated. No call of a user.
-pub fn calibrated_ok(x: Probe, k: Kind, a: Probing) -> bool
-    requires { ⌜ numbersOk k a ≡ true ⌝ }
-    ensures { λ r. ⌜ r ≡ calibratedOk (x .status) k a ⌝ }
-{
-    let form = k.form;
-    match form {
-        Form::Plane => calibrated_in(x, a.axis, a.direction),
-        Form::Single => pair_calibrated(x, single_pair(k, a)),
-        Form::Double => {
-            let both = both_pairs(k, a);
-            let first = both.first;
-            let second = both.second;
-            pair_calibrated(x, first) & pair_calibrated(x, second)
-        }
     }
 }

@@ -5,9 +5,9 @@ use mir.Val.{ofZ, toZ}
 use borrow.Author.Needs.{needs}
 use Rattle.signed.specs.CodeLaws.{read}
 use Rattle.rules.specs.Probes.{on, calibratedIn}
 use Rattle.kinds.specs.Touches.{touch}
-use Rattle.kinds.proofs.pair_calibrated.Statement.{statement}
-use Rattle.kinds.proofs.pair_calibrated.Tie as tie
+use Rattle.kind_tests.proofs.pair_calibrated.Statement.{statement}
+use Rattle.kind_tests.proofs.pair_calibrated.Tie as tie
 
 calibrated-in-requires : tie.Need-calibrated-in-requires
 calibrated-in-requires c κs = search needs

@@ -3,8 +3,8 @@ use mathlib.Core.Bool.{_&&_, and-true}
 use mir.Facts.{toZ-ofZ}
 use borrow.Author.Needs.{needs}
 use Rattle.rules.specs.Stores.{positionRange}
-use Rattle.kinds.proofs.both_ok.Statement.{statement}
-use Rattle.kinds.proofs.both_ok.Tie as tie
+use Rattle.kind_tests.proofs.both_ok.Statement.{statement}
+use Rattle.kind_tests.proofs.both_ok.Tie as tie
 
 position-ok-requires : tie.Need-position-ok-requires
 position-ok-requires c κs = search needs

@@ -16,8 +16,8 @@ use Rattle.package.specs.declared.Raws.{Raws}
 use Rattle.rules.specs.Stores.{positionRange, widthRange}
 use Rattle.rules.specs.Kinds.{kind}
 use Rattle.rules.specs.Sizes.{pairs, positionsOk}
-use Rattle.kinds.proofs.positions_ok.Statement.{statement}
-use Rattle.kinds.proofs.positions_ok.Tie as tie
+use Rattle.kind_tests.proofs.positions_ok.Statement.{statement}
+use Rattle.kind_tests.proofs.positions_ok.Tie as tie
 
 -- the test by the form
 abbrev inRange : List ℤ → Bool
@@ -136,4 +136,5 @@ returns-3 c =
 pub positions-ok-spec : {M : Type 1} → statement M
 positions-ok-spec =
     tie.close
-    (tie.spec enum-told position-ok-requires position-ok-requires-2 enum-told-2 both-ok-requires single-centre-requires position-ok-requires-3 width-ok-requires enum-told-3 both-ok-requires-2 both-ok-requires-3 both-ok-requires-4 width-ok-requires-2 returns returns-2 returns-3)
+    (tie.spec enum-told position-ok-requires position-ok-requires-2 enum-told-2 both-ok-requires single-centre-requires position-ok-requires-3
+    width-ok-requires enum-told-3 both-ok-requires-2 both-ok-requires-3 both-ok-requires-4 width-ok-requires-2 returns returns-2 returns-3)

@@ -1,6 +1,6 @@
 use borrow.Author.Needs.{needs}
-use Rattle.kinds.proofs.width_ok.Statement.{statement}
-use Rattle.kinds.proofs.width_ok.Tie as tie
+use Rattle.kind_tests.proofs.width_ok.Statement.{statement}
+use Rattle.kind_tests.proofs.width_ok.Tie as tie
 
 in-range-requires : tie.Need-in-range-requires
 in-range-requires c κs = search needs
