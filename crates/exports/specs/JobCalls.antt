@@ -19,7 +19,8 @@ use Rattle.job_text.specs.Letters.{Letter, letters, byLetter}
 use Rattle.job_text.specs.Lines.{Said, malformed, says, saidIn, saidBy}
 use Rattle.job_text.specs.declared.Line.{Line}
 use Rattle.job_lines.specs.LineCalled.{lineCalled}
-use Rattle.jobs.specs.Jobs.{linesArea, jobCalled}
+use Rattle.lists.specs.Written.{written}
+use Rattle.jobs.specs.Jobs.{linesArea, linesText, jobLeft, jobCalled}
 
 -- a malformed line is no call
 abbrev pub callOf : Said → List Call
@@ -38,11 +39,11 @@ jobCalls job room = cond (eqb (jobRefusal job room) 0) (callsOf (lines job)) []
 by-letter : (P : Said → Type 0) (ls : List Letter) (byte : ℕ) (values : List ℤ) → P malformed → Each (λ r. P (says (r .call values))) ls
     → P (byLetter ls byte (λ r. says (r .call values)) malformed)
 by-letter P [] byte values m h = m
-by-letter P (l ∷ ls) byte values m h = go (eqb byte (l .byte))
+by-letter P (l ∷ ls) byte values m h = go (eqb byte (l .byte)) (by-letter P ls byte values m (h .1))
   where
-    go : (b : Bool) → P (cond b (says (l .call values)) (byLetter ls byte (λ r. says (r .call values)) malformed))
-    go true = h .0
-    go false = by-letter P ls byte values m (h .1)
+    go : (b : Bool) → P (byLetter ls byte (λ r. says (r .call values)) malformed) → P (cond b (says (l .call values)) (byLetter ls byte (λ r. says (r .call values)) malformed))
+    go true k = h .0
+    go false k = k
 
 abbrev Given : Said → Type 0
 Given s = Each (λ c. Bytes (meaning c .given)) (callOf s)
@@ -50,3 +51,43 @@ Given s = Each (λ c. Bytes (meaning c .given)) (callOf s)
 line-given : (l : Line) → Given (saidIn l)
 unfolding saidIn
 line-given l = by-letter Given letters (l .letter) (l .values) tt ((tt, tt), ((tt, tt), ((tt, tt), ((tt, tt), ((tt, tt), ((tt, tt), tt))))))
+
+each-append : {A : Type 0} (P : A → Type 0) (xs ys : List A) → Each P xs → Each P ys → Each P (xs ++ ys)
+each-append P [] ys h k = k
+each-append P (x ∷ xs) ys h k = (h .0, each-append P xs ys (h .1) k)
+
+lines-given : (ls : List (List ℕ)) → Each (λ c. Bytes (meaning c .given)) (callsOf ls)
+lines-given [] = tt
+lines-given (l ∷ ls) = each-append (λ c. Bytes (meaning c .given)) (callOf (saidBy l)) (callsOf ls) (line-given _) (lines-given ls)
+
+pub job-given : (job : List ℕ) (room : ℕ) → Each (λ c. Bytes (meaning c .given)) (jobCalls job room)
+job-given job room = go (eqb (jobRefusal job room) 0)
+  where
+    go : (b : Bool) → Each (λ c. Bytes (meaning c .given)) (cond b (callsOf (lines job)) [])
+    go true = lines-given (lines job)
+    go false = tt
+
+-- ---- the area after a job is that after its calls
+abbrev pub callArea : List ℤ → Call → List ℤ
+callArea area c = called area c .area
+
+line-area : (area : List ℤ) (s : Said) → lineCalled area s .area ≡ folded callArea area (callOf s)
+line-area area malformed = refl
+line-area area (says c) = refl
+
+lines-area : (area : List ℤ) (ls : List (List ℕ)) → linesArea area ls ≡ folded callArea area (callsOf ls)
+unfolding linesArea
+lines-area area [] = refl
+lines-area area (l ∷ ls) =
+    lines-area (lineCalled area (saidBy l) .area) ls
+    ∙ ap (λ (a : List ℤ). folded callArea a (callsOf ls)) (line-area area (saidBy l))
+    ∙ sym (folded-append callArea area (callOf (saidBy l)) (callsOf ls))
+
+pub job-area : (area : List ℤ) (job output : List ℕ) → length area ≡ areaLength → jobCalled area job output .area ≡ folded callArea area (jobCalls job (length output))
+unfolding jobCalled
+job-area area job output whole = rw (eq-eqb (length area) areaLength whole) (go (eqb (jobRefusal job (length output)) 0))
+  where
+    go : (b : Bool) → cond b (jobLeft 0 (length (linesText area 0 (lines job))) (linesArea area (lines job)) (written output 0 (linesText area 0 (lines job)))) (jobLeft (jobRefusal job (length output)) 0 area output) .area
+        ≡ folded callArea area (cond b (callsOf (lines job)) [])
+    go true = lines-area area (lines job)
+    go false = refl
