@@ -12,7 +12,7 @@ use Rattle.lists.specs.Copied.{part-end}
 use Rattle.signed.specs.Expressions.{Ex, bound, lit, sub, Runs, run}
 use Rattle.text.specs.declared.Whole.{Whole}
 use Rattle.text.specs.declared.Whole.the-variants.{Digits}
-use Rattle.text.specs.Pieces.{lineFeed, upTo, field}
+use Rattle.text.specs.Pieces.{HasLine, field}
 use Rattle.text.specs.PieceLaws.{field-within}
 use Rattle.text.specs.Reading.{ReadsWhole}
 use Rattle.text.proofs.Laws.{Sign, behind-sign, plain-read, nought-read, minus-read, bad-read}
@@ -28,8 +28,7 @@ signed j = ⊎-elim (λ w. inl (w .1, w .0 .taken)) (λ w. inr (w .1, w .0 .left
 some : (j : tie.Joined1) → 0 < length (text j)
 some j = omega (arith, j .before .before .before .pre)
 
-behind : (j : tie.Joined1)
-    → (j .if1 .sign ≤ length (text j)) × (length (upTo lineFeed (drop (j .if1 .sign) (text j))) < length (drop (j .if1 .sign) (text j)))
+behind : (j : tie.Joined1) → (j .if1 .sign ≤ length (text j)) × HasLine (drop (j .if1 .sign) (text j))
 behind j = behind-sign (text j) (j .if1 .sign) (signed j) (j .before .before .before .pre)
 
 -- the digits behind the sign
