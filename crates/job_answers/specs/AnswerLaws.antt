@@ -3,7 +3,7 @@ use Prim.Native.Nat.{ℕ, _≤_}
 use native.Mathlib.Omega.{arith}
 use lib.IntN.{natAbs}
 use lib.ListN.{length, length-append}
-use Rattle.text.specs.DecimalLaws.{decimal-length, signed-length}
+use Rattle.decimals.specs.DecimalLaws.{decimal-length, signed-length}
 use Rattle.rules.specs.EvaluationLaws.{EvaluationSmall}
 use Rattle.job_answers.specs.Answers.{rowText}
 use Rattle.job_answers.specs.declared.Row.{Row}

@@ -3,7 +3,7 @@ use mathlib.Core.List.{List, [], _∷_, _++_}
 use Prim.Native.Nat.{ℕ}
 use lib.IntN.{ℤ}
 use Rattle.text.specs.Pieces.{comma, lineFeed}
-use Rattle.text.specs.Decimals.{decimal, signedDecimal}
+use Rattle.decimals.specs.Decimals.{decimal, signedDecimal}
 use Rattle.package.specs.declared.Evaluation.{Evaluation}
 use Rattle.job_answers.specs.declared.Row.{Row}
 

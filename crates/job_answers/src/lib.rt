@@ -2,9 +2,9 @@
 use package::Evaluation;
 use text::COMMA;
 use text::LINE_FEED;
-use text::put_byte;
-use text::put_number;
-use text::put_whole;
+use decimals::put_byte;
+use decimals::put_number;
+use decimals::put_whole;
 ghost use mathlib.Core.Path.{_≡_};
 ghost use Prim.Native.Nat.{_+_, _≤_};
 ghost use lib.ListN.{length};

@@ -5,7 +5,7 @@ use Prim.Native.Nat.{ℕ, _+_, _≤_}
 use lib.ListN.{length}
 use Rattle.text.specs.Pieces.{comma}
 use Rattle.lists.specs.WrittenLaws.{written-length}
-use Rattle.text.specs.WrittenLaws.{Put, chain, fits-front, fits-next}
+use Rattle.decimals.specs.WrittenLaws.{Put, chain, fits-front, fits-next}
 use Rattle.job_answers.specs.Answers.{wholeField, evaluationText}
 use Rattle.job_answers.specs.declared.Row.{Row}
 use Rattle.job_answers.proofs.put_row.Statement.{statement}

@@ -1,8 +1,8 @@
 use mathlib.Core.List.{[], _∷_}
 use mir.Facts.{toZ-ofZ}
 use borrow.Author.Needs.{needs}
-use Rattle.text.specs.Decimals.{signedDecimal}
-use Rattle.text.specs.WrittenLaws.{Put, chain, fits-front, fits-next}
+use Rattle.decimals.specs.Decimals.{signedDecimal}
+use Rattle.decimals.specs.WrittenLaws.{Put, chain, fits-front, fits-next}
 use Rattle.job_answers.proofs.put_signed_field.Statement.{statement}
 use Rattle.job_answers.proofs.put_signed_field.Tie as tie
 

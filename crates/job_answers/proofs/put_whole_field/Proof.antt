@@ -1,7 +1,7 @@
 use mathlib.Core.List.{[], _∷_}
 use borrow.Author.Needs.{needs}
-use Rattle.text.specs.Decimals.{decimal}
-use Rattle.text.specs.WrittenLaws.{chain, fits-front, fits-next}
+use Rattle.decimals.specs.Decimals.{decimal}
+use Rattle.decimals.specs.WrittenLaws.{chain, fits-front, fits-next}
 use Rattle.job_answers.proofs.put_whole_field.Statement.{statement}
 use Rattle.job_answers.proofs.put_whole_field.Tie as tie
 
