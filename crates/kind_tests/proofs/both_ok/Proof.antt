@@ -1,0 +1,22 @@
+use mathlib.Core.Path.{sym, ap, ap₂, _∙_}
+use mathlib.Core.Bool.{_&&_, and-true}
+use mir.Facts.{toZ-ofZ}
+use borrow.Author.Needs.{needs}
+use Rattle.rules.specs.Stores.{positionRange}
+use Rattle.kind_tests.proofs.both_ok.Statement.{statement}
+use Rattle.kind_tests.proofs.both_ok.Tie as tie
+
+position-ok-requires : tie.Need-position-ok-requires
+position-ok-requires c κs = search needs
+
+position-ok-requires-2 : tie.Need-position-ok-requires-2
+position-ok-requires-2 c κs = search needs
+
+returns : tie.Need-returns
+returns c =
+    let s = c .before .before in
+    ap₂ _&&_ (c .before .position-ok .ensures ∙ ap positionRange (toZ-ofZ (s .fits .v)))
+    (c .position-ok2 .ensures ∙ ap positionRange (toZ-ofZ (s .fits .w)) ∙ sym (and-true (positionRange (s .args .w))))
+
+pub both-ok-spec : {M : Type 1} → statement M
+both-ok-spec = tie.close (tie.spec position-ok-requires position-ok-requires-2 returns)

@@ -1,0 +1,107 @@
+use mathlib.Core.Path.{_≡_, sym, ap, ap₂, _∙_, subst}
+use mathlib.Core.Bool.{Bool, _&&_, and-true}
+use mathlib.Core.List.{List, [], _∷_}
+use Prim.Native.Nat.{ℕ}
+use borrow.Author.Needs.{needs}
+use Rattle.lists.specs.Each.{Each, every, every-append}
+use Rattle.package.specs.declared.Form.the-variants.{Plane, Single, Double}
+use Rattle.package.specs.declared.Kind.{Kind}
+use Rattle.package.specs.declared.Probing.{Probing}
+use Rattle.rules.specs.Probes.{on, calibratedIn}
+use Rattle.rules.specs.Sizes.{Across, Touch, pairs, calibratedOk}
+use Rattle.kinds.specs.Touches.{Placed, across}
+use Rattle.kinds.specs.KindLaws.{plane-numbers, pairs-placed}
+use Rattle.kinds.proofs.Laws.{head-same, next-same}
+use Rattle.kind_tests.proofs.calibrated_ok.Statement.{statement}
+use Rattle.kind_tests.proofs.calibrated_ok.Tie as tie
+
+-- the test by the form
+module _ (status : ℕ) (k : Kind) (a : Probing) where
+  abbrev calibrated : List Touch → Bool
+  calibrated = every (λ t. calibratedIn status (t .way))
+
+  of-plane : k .form ≡ Plane → calibratedOk status k a ≡ calibratedIn status (on (a .axis) (a .direction))
+  unfolding calibratedOk
+  of-plane e = rw e (and-true (calibratedIn status (on (a .axis) (a .direction))))
+
+  of-single : (p : Across) → k .form ≡ Single → pairs k a ≡ p ∷ [] → calibratedOk status k a ≡ calibrated (p .low ∷ p .high ∷ [])
+  unfolding calibratedOk
+  of-single p f e = rw f (ap (λ p. calibrated (p .low ∷ p .high ∷ [])) (head-same (rw f at e)))
+
+  of-double : (p q : Across) → k .form ≡ Double → pairs k a ≡ p ∷ q ∷ [] →
+      calibratedOk status k a ≡ (calibrated (p .low ∷ p .high ∷ []) && calibrated (q .low ∷ q .high ∷ []))
+  unfolding calibratedOk
+  of-double p q f e =
+      let h = rw f at e in
+      rw f (ap₂ (λ p q. calibrated (p .low ∷ p .high ∷ q .low ∷ q .high ∷ [])) (head-same h) (next-same h))
+      ∙ every-append (λ t. calibratedIn status (t .way)) (p .low ∷ p .high ∷ []) (q .low ∷ q .high ∷ [])
+
+enum-told : tie.Need-enum-told
+enum-told c = search needs
+
+calibrated-in-requires : tie.Need-calibrated-in-requires
+calibrated-in-requires c κs =
+    let s = c .before .before .before .before in
+    let n = plane-numbers (s .args .k) (s .args .a) (s .pre) (c .before .before .enum-told .given .1) in
+    search needs
+
+enum-told-2 : tie.Need-enum-told-2
+enum-told-2 c = search needs
+
+single-pair-requires : tie.Need-single-pair-requires
+single-pair-requires c κs = search needs
+
+-- where both ends of every pair stand
+abbrev BothPlaced : List Across → Type 0
+BothPlaced = Each (λ p. Placed (p .low) × Placed (p .high))
+
+pair-calibrated-requires : tie.Need-pair-calibrated-requires
+pair-calibrated-requires c κs =
+    let s = c .before .before .before in
+    subst BothPlaced (c .single-pair .ensures) (pairs-placed (s .args .k) (s .args .a) (s .pre)) .0
+
+enum-told-3 : tie.Need-enum-told-3
+enum-told-3 c = search needs
+
+both-pairs-requires : tie.Need-both-pairs-requires
+both-pairs-requires c κs = search needs
+
+both-placed : (c : tie.After-both-pairs) → BothPlaced (across (c .both-pairs .result .first) ∷ across (c .both-pairs .result .second) ∷ [])
+both-placed c =
+    let s = c .before .before .before in
+    subst BothPlaced (c .both-pairs .ensures) (pairs-placed (s .args .k) (s .args .a) (s .pre))
+
+pair-calibrated-requires-2 : tie.Need-pair-calibrated-requires-2
+pair-calibrated-requires-2 c κs = both-placed (c .before .before) .0
+
+pair-calibrated-requires-3 : tie.Need-pair-calibrated-requires-3
+pair-calibrated-requires-3 c κs = both-placed (c .before .before .before) .1 .0
+
+returns : tie.Need-returns
+returns c =
+    let e = c .before .before .before in
+    let s = e .before .before in
+    rw (of-plane (s .args .x .status) (s .args .k) (s .args .a) (e .enum-told .given .1), c .calibrated-in .ensures) (search needs)
+
+returns-2 : tie.Need-returns-2
+returns-2 c =
+    let p = c .before in
+    let e = p .before in
+    let s = e .before .before in
+    c .pair-calibrated .ensures
+    ∙ sym (of-single (s .args .x .status) (s .args .k) (s .args .a) (across (p .single-pair .result)) (e .enum-told2 .given .1) (p .single-pair .ensures))
+
+returns-3 : tie.Need-returns-3
+returns-3 c =
+    let b = c .before .before .before .before in
+    let e = b .before in
+    let s = e .before .before in
+    let both = b .both-pairs .result in
+    ap₂ _&&_ (c .before .pair-calibrated2 .ensures) (c .pair-calibrated3 .ensures)
+    ∙ sym (of-double (s .args .x .status) (s .args .k) (s .args .a) (across (both .first)) (across (both .second)) (e .enum-told3 .given .1) (b .both-pairs .ensures))
+
+pub calibrated-ok-spec : {M : Type 1} → statement M
+calibrated-ok-spec =
+    tie.close
+    (tie.spec enum-told calibrated-in-requires enum-told-2 single-pair-requires pair-calibrated-requires enum-told-3 both-pairs-requires
+    pair-calibrated-requires-2 pair-calibrated-requires-3 returns returns-2 returns-3)

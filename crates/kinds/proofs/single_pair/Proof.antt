@@ -1,0 +1,30 @@
+use borrow.Author.Needs.{needs}
+use Rattle.signed.specs.CodeLaws.{read}
+use Rattle.kinds.proofs.single_pair.Statement.{statement}
+use Rattle.kinds.proofs.single_pair.Tie as tie
+
+ways-of-requires : tie.Need-ways-of-requires
+ways-of-requires c κs = search needs
+
+single-centre-requires : tie.Need-single-centre-requires
+single-centre-requires c κs = search needs
+
+returns : tie.Need-returns
+returns c =
+    let w = c .before .before .before .before .before in
+    let s = w .before in
+    let a = s .args .a in
+    let t = rw (s .pre) at (w .ways-of .ensures a) in
+    rw (
+      s .pre,
+      t .0 .0,
+      t .0 .1,
+      c .single-centre .ensures (s .args .k .inside) .0,
+      read (a .axis) (search needs),
+      read (w .ways-of .result .low) (search needs),
+      read (w .ways-of .result .high) (search needs),
+      read (c .single-centre .result) (search needs),
+    )
+
+pub single-pair-spec : {M : Type 1} → statement M
+single-pair-spec = tie.close (tie.spec ways-of-requires single-centre-requires returns)
