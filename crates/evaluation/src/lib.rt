@@ -19,7 +19,7 @@ ghost use Rattle.evaluation.specs.FoundSmall.{FoundSmall};
 // A size less EV and less its setpoint. No call of a user.
 pub fn difference_of(h: Held, ev: i64) -> i64
     requires { ⌜ (natAbs (h .size) ≤ 20200000) × (natAbs (h .setpoint) ≤ 10000000) × (natAbs ev ≤ 32768) ⌝ }
-    ensures { λ r. ⌜ (r ≡ difference h ev) × (natAbs r ≤ 100000000) ⌝ }
+    ensures { λ r. ⌜ (r ≡ difference h ev) × (natAbs r ≤ 40000000) ⌝ }
 {
     h.size - ev - h.setpoint
 }

@@ -2,6 +2,7 @@
 use mathlib.Core.Path.{_≡_}
 use mathlib.Core.Bool.{true}
 use Prim.Native.Nat.{_≤_}
+use native.Mathlib.Omega.{arith}
 use lib.IntN.{natAbs}
 use mir.Syntax.{w16, w64}
 use Rattle.signed.specs.CodeLaws.{read, read-as, Widened, widened}
@@ -46,7 +47,7 @@ difference-of-requires c κs = let t = small (c .before .before .before) in (t .
 decision-of-requires : tie.Need-decision-of-requires
 decision-of-requires c κs =
     let d = c .before .difference-of in
-    (first (c .before .before) .pre .1, rw (read (d .result) (d .ok)) (d .ensures .1))
+    (first (c .before .before) .pre .1, rw (read (d .result) (d .ok)) (omega (arith, d .ensures .1)))
 
 calibrated-ok-requires : tie.Need-calibrated-ok-requires
 calibrated-ok-requires c κs = passed (first (c .before .before .before)) .0
@@ -70,7 +71,7 @@ returns c =
     let wear = rw (read (dc .decision-of .result .correction) (c .before .struct-told3 .given .1 .0 .1)) at (c .wear-left .ensures) in
     rw (ev v .value, read (d .result) (d .ok), read (c .wear-left .result) (c .wear-left .ok)) (
       found-is (s .args .r) (s .args .a) (s .pre .0) (k .calibrated-ok .ensures) (z .sizes-of .ensures) (rw (ev v .value) at (d .ensures .0)) decision wear,
-      record { sizes = small z; ev = ev-size v; deviation = d .ensures .1; decision = dc .decision-of .ensures .1 },
+      record { sizes = small z; ev = ev-size v; deviation = omega (arith, d .ensures .1); decision = dc .decision-of .ensures .1 },
     )
 
 pub tool-found-spec : {M : Type 1} → statement M
