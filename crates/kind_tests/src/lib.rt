@@ -70,7 +70,7 @@ pub fn positions_ok(k: Kind, a: Probing, q: Raws) -> bool
 
 // Whether both directions of a pair are calibrated.
 fn pair_calibrated(x: Probe, p: Across) -> bool
-    requires { ⌜ Placed (touch (p .low)) × Placed (touch (p .high)) ⌝ }
+    requires { ⌜ Placed (touch (p .low) .way) × Placed (touch (p .high) .way) ⌝ }
     ensures { λ r. ⌜ r ≡ every (λ t. calibratedIn (x .status) (t .way)) (touch (p .low) ∷ touch (p .high) ∷ []) ⌝ }
 {
     calibrated_in(x, p.low.axis, p.low.direction) & calibrated_in(x, p.high.axis, p.high.direction)
@@ -87,9 +87,7 @@ pub fn calibrated_ok(x: Probe, k: Kind, a: Probing) -> bool
         Form::Single => pair_calibrated(x, single_pair(k, a)),
         Form::Double => {
             let both = both_pairs(k, a);
-            let first = both.first;
-            let second = both.second;
-            pair_calibrated(x, first) & pair_calibrated(x, second)
+            pair_calibrated(x, both.first) & pair_calibrated(x, both.second)
         }
     }
 }

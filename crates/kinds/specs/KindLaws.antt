@@ -15,6 +15,7 @@ use Rattle.package.specs.declared.Probing.{Probing}
 use Rattle.package.specs.declared.Raws.{Raws}
 use Rattle.rules.specs.Stores.{axisNumber, directionNumber, probeNumber, positionRange, widthRange}
 use Rattle.rules.specs.RefusalLaws.{all-of}
+use Rattle.rules.specs.Probes.{on}
 use Rattle.rules.specs.Kinds.{kind, byForm}
 use Rattle.rules.specs.Sizes.{pairs, touches, rawAt, numbersOk, positionsOk}
 use Rattle.kinds.specs.Touches.{Placed, Positioned}
@@ -46,27 +47,24 @@ module _ (k : Kind) (a : Probing) (passed : numbersOk k a ≡ true) where
   pub single-axis : k .form ≡ Single → within (pos 1) (pos 2) (a .axis) ≡ true
   single-axis f = rw f at (numbers .1)
 
-  pub pairs-placed : Each (λ p. Placed (p .low) × Placed (p .high)) (pairs k a)
+  pub pairs-placed : Each (λ p. Placed (p .low .way) × Placed (p .high .way)) (pairs k a)
   pairs-placed = go (k .form) (numbers .1)
     where
       either : (b : Bool) (x y : ℤ) → directionNumber x ≡ true → directionNumber y ≡ true → directionNumber (cond b x y) ≡ true
       either true x y e f = e
       either false x y e f = f
 
-      low : directionNumber (cond (k .inside) (pos 1) (pos 0)) ≡ true
-      low = either (k .inside) (pos 1) (pos 0) refl refl
-
-      high : directionNumber (cond (k .inside) (pos 0) (pos 1)) ≡ true
-      high = either (k .inside) (pos 0) (pos 1) refl refl
+      both : {n : ℤ} → axisNumber n ≡ true → Placed (on n (cond (k .inside) (pos 1) (pos 0))) × Placed (on n (cond (k .inside) (pos 0) (pos 1)))
+      both e =
+          let low = either (k .inside) (pos 1) (pos 0) refl refl in
+          let high = either (k .inside) (pos 0) (pos 1) refl refl in
+          (record { axis = e; direction = low }, record { axis = e; direction = high })
 
       go : (f : Form) → byForm f (axisNumber (a .axis) && directionNumber (a .direction)) (within (pos 1) (pos 2) (a .axis)) true ≡ true →
-          Each (λ p. Placed (p .low) × Placed (p .high)) (pairs (kind f (k .inside)) a)
+          Each (λ p. Placed (p .low .way) × Placed (p .high .way)) (pairs (kind f (k .inside)) a)
       go Plane e = tt
-      go Single e =
-          let n = axis-number (a .axis) e in
-          ((record { axis = n; direction = low }, record { axis = n; direction = high }), tt)
-      go Double e =
-          ((record { axis = refl; direction = low }, record { axis = refl; direction = high }), ((record { axis = refl; direction = low }, record { axis = refl; direction = high }), tt))
+      go Single e = (both (axis-number (a .axis) e), tt)
+      go Double e = (both refl, (both refl, tt))
 
 -- ---- positions
 module _ (k : Kind) (a : Probing) (q : Raws) (passed : positionsOk k a q ≡ true) where
@@ -87,10 +85,12 @@ module _ (k : Kind) (a : Probing) (q : Raws) (passed : positionsOk k a q ≡ tru
 
   pub pairs-positioned : Each (Positioned q) (pairs k a)
   pairs-positioned =
-      go (k .form) (every-each (λ t. positionRange (rawAt q t)) (touches k a) (positions .0)) (every-each (λ p. positionRange (p .set)) (pairs k a) (positions .1))
+      let raws = every-each (λ t. positionRange (rawAt q t)) (touches k a) (positions .0) in
+      go (k .form) raws (every-each (λ p. positionRange (p .set)) (pairs k a) (positions .1))
     where
-      go : (f : Form) → Each (λ t. positionRange (rawAt q t) ≡ true) (touches (kind f (k .inside)) a) → Each (λ p. positionRange (p .set) ≡ true) (pairs (kind f (k .inside)) a) →
-          Each (Positioned q) (pairs (kind f (k .inside)) a)
+      go : (f : Form) →
+          let g = kind f (k .inside) in
+          Each (λ t. positionRange (rawAt q t) ≡ true) (touches g a) → Each (λ p. positionRange (p .set) ≡ true) (pairs g a) → Each (Positioned q) (pairs g a)
       go Plane t s = tt
       go Single t s = (record { low = t .0; high = t .1 .0; set = s .0 }, tt)
       go Double t s =

@@ -53,7 +53,7 @@ single-pair-requires c κs = search needs
 
 -- where both ends of every pair stand
 abbrev BothPlaced : List Across → Type 0
-BothPlaced = Each (λ p. Placed (p .low) × Placed (p .high))
+BothPlaced = Each (λ p. Placed (p .low .way) × Placed (p .high .way))
 
 pair-calibrated-requires : tie.Need-pair-calibrated-requires
 pair-calibrated-requires c κs =
@@ -72,10 +72,10 @@ both-placed c =
     subst BothPlaced (c .both-pairs .ensures) (pairs-placed (s .args .k) (s .args .a) (s .pre))
 
 pair-calibrated-requires-2 : tie.Need-pair-calibrated-requires-2
-pair-calibrated-requires-2 c κs = both-placed (c .before .before) .0
+pair-calibrated-requires-2 c κs = both-placed c .0
 
 pair-calibrated-requires-3 : tie.Need-pair-calibrated-requires-3
-pair-calibrated-requires-3 c κs = both-placed (c .before .before .before) .1 .0
+pair-calibrated-requires-3 c κs = both-placed (c .before) .1 .0
 
 returns : tie.Need-returns
 returns c =
@@ -93,12 +93,13 @@ returns-2 c =
 
 returns-3 : tie.Need-returns-3
 returns-3 c =
-    let b = c .before .before .before .before in
+    let b = c .before .before in
     let e = b .before in
     let s = e .before .before in
-    let both = b .both-pairs .result in
+    let p = across (b .both-pairs .result .first) in
+    let q = across (b .both-pairs .result .second) in
     ap₂ _&&_ (c .before .pair-calibrated2 .ensures) (c .pair-calibrated3 .ensures)
-    ∙ sym (of-double (s .args .x .status) (s .args .k) (s .args .a) (across (both .first)) (across (both .second)) (e .enum-told3 .given .1) (b .both-pairs .ensures))
+    ∙ sym (of-double (s .args .x .status) (s .args .k) (s .args .a) p q (e .enum-told3 .given .1) (b .both-pairs .ensures))
 
 pub calibrated-ok-spec : {M : Type 1} → statement M
 calibrated-ok-spec =

@@ -136,4 +136,5 @@ returns-3 c =
 pub positions-ok-spec : {M : Type 1} → statement M
 positions-ok-spec =
     tie.close
-    (tie.spec enum-told position-ok-requires position-ok-requires-2 enum-told-2 both-ok-requires single-centre-requires position-ok-requires-3 width-ok-requires enum-told-3 both-ok-requires-2 both-ok-requires-3 both-ok-requires-4 width-ok-requires-2 returns returns-2 returns-3)
+    (tie.spec enum-told position-ok-requires position-ok-requires-2 enum-told-2 both-ok-requires single-centre-requires position-ok-requires-3
+    width-ok-requires enum-told-3 both-ok-requires-2 both-ok-requires-3 both-ok-requires-4 width-ok-requires-2 returns returns-2 returns-3)
