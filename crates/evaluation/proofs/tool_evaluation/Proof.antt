@@ -1,0 +1,39 @@
+use borrow.Author.Needs.{needs}
+use Rattle.signed.specs.CodeLaws.{read}
+use Rattle.evaluation.proofs.Laws.{narrowed}
+use Rattle.evaluation.proofs.tool_evaluation.Statement.{statement}
+use Rattle.evaluation.proofs.tool_evaluation.Tie as tie
+
+branch-number-requires : tie.Need-branch-number-requires
+branch-number-requires c κs = search needs
+
+verdict-of-requires : tie.Need-verdict-of-requires
+verdict-of-requires c κs = search needs
+
+cast-t8 : tie.Need-cast-t8
+cast-t8 c =
+    let s = c .before .before .before .before .before .before .before in
+    narrowed (s .args .f .deviation) (s .pre .deviation) .fits
+
+cast-t9 : tie.Need-cast-t9
+cast-t9 c =
+    let s = c .before .before .before .before .before .before .before .before .before in
+    narrowed (s .args .f .decision .correction) (s .pre .decision .correction) .fits
+
+returns : tie.Need-returns
+returns c =
+    let d = c .before .before in
+    let v = d .before .before in
+    let b = v .before .before in
+    let s = b .before .before .before in
+    let f = s .args .f in
+    rw (
+      b .branch-number .ensures,
+      v .verdict-of .ensures,
+      narrowed (f .deviation) (s .pre .deviation) .value,
+      narrowed (f .decision .correction) (s .pre .decision .correction) .value,
+      read (f .deviation) (v .before .struct-told .given .1 .1 .1 .0 .1),
+    )
+
+pub tool-evaluation-spec : {M : Type 1} → statement M
+tool-evaluation-spec = tie.close (tie.spec branch-number-requires verdict-of-requires cast-t8 cast-t9 returns)

@@ -1,0 +1,56 @@
+use mathlib.Core.Path.{_∙_}
+use native.Mathlib.Omega.{arith}
+use mir.Syntax.{w16}
+use Rattle.signed.specs.CodeLaws.{read, read-as}
+use mir.Facts.{toZ-ofZ}
+use Rattle.rules.specs.Stores.{empiricals, means}
+use Rattle.rules.specs.Tool.{toolKindOf}
+use Rattle.kinds.specs.KindLaws.{probe-number}
+use Rattle.reading.proofs.Laws.{Known, held-at}
+use Rattle.reading.proofs.tool_records.Statement.{statement}
+use Rattle.reading.proofs.tool_records.Tie as tie
+
+probe-at-requires : tie.Need-probe-at-requires
+probe-at-requires c κs =
+    let s = c .before .before in
+    let a = s .args .a in
+    (s .pre .0, rw (read (a .part .probe) (c .struct-told .given .1 .0 .1)) (probe-number (toolKindOf a) (a .part) (s .pre .1 .numbers)))
+
+value-at-requires : tie.Need-value-at-requires
+value-at-requires c κs =
+    let s = c .before .before .before .before in
+    (omega (arith, s .pre .0), (rw (read (s .args .a .ev) (c .struct-told2 .given .1 .1 .1 .0 .1)) (s .pre .1 .ev), omega arith))
+
+value-at-requires-2 : tie.Need-value-at-requires-2
+value-at-requires-2 c κs =
+    let s = c .before .before .before .before .before .before in
+    (omega (arith, s .pre .0), (rw (read (s .args .a .mv) (c .struct-told3 .given .1 .1 .1 .1 .0 .1)) (s .pre .1 .mv), omega arith))
+
+wear-at-requires : tie.Need-wear-at-requires
+wear-at-requires c κs =
+    let s = c .before .before .before .before .before .before .before .before in
+    (s .pre .0, rw (read (s .args .a .tool) (c .struct-told4 .given .1 .1 .0 .1)) (s .pre .1 .tool))
+
+returns : tie.Need-returns
+returns c =
+    let t4 = c .before in
+    let m = t4 .before in
+    let t3 = m .before in
+    let e = t3 .before in
+    let t2 = e .before in
+    let x = t2 .before in
+    let t1 = x .before in
+    let s = t1 .before .before in
+    let a = s .args .a in
+    let area = s .args .area .now in
+    let ev : Known area empiricals (a .ev) = record { whole = s .pre .0; named-in = s .pre .1 .ev; fits = record { sfits = t2 .struct-told2 .given .1 .1 .1 .0 .1 } } in
+    let mv : Known area means (a .mv) = record { whole = s .pre .0; named-in = s .pre .1 .mv; fits = record { sfits = t3 .struct-told3 .given .1 .1 .1 .1 .0 .1 } } in
+    rw (
+      rw (read (a .part .probe) (t1 .struct-told .given .1 .0 .1)) at (x .probe-at .ensures),
+      read-as w16 (e .value-at .result) (e .value-at .ok) ∙ (rw (toZ-ofZ (ev .fits)) at (e .value-at .ensures)) ∙ held-at ev,
+      read-as w16 (m .value-at2 .result) (m .value-at2 .ok) ∙ (rw (toZ-ofZ (mv .fits)) at (m .value-at2 .ensures)) ∙ held-at mv,
+      rw (read (a .tool) (t4 .struct-told4 .given .1 .1 .0 .1)) at (c .wear-at .ensures),
+    )
+
+pub tool-records-spec : {M : Type 1} → statement M
+tool-records-spec = tie.close (tie.spec probe-at-requires value-at-requires value-at-requires-2 wear-at-requires returns)

@@ -1,0 +1,30 @@
+use Rattle.signed.specs.CodeLaws.{read}
+use Rattle.rules.specs.Zero.{zeroKindOf}
+use Rattle.kinds.specs.KindLaws.{probe-number}
+use Rattle.reading.proofs.zero_records.Statement.{statement}
+use Rattle.reading.proofs.zero_records.Tie as tie
+
+probe-at-requires : tie.Need-probe-at-requires
+probe-at-requires c κs =
+    let s = c .before .before in
+    let a = s .args .a in
+    (s .pre .0, rw (read (a .part .probe) (c .struct-told .given .1 .0 .1)) (probe-number (zeroKindOf a) (a .part) (s .pre .1 .numbers)))
+
+offset-at-requires : tie.Need-offset-at-requires
+offset-at-requires c κs =
+    let s = c .before .before .before .before in
+    (s .pre .0, rw (read (s .args .a .offset) (c .struct-told2 .given .1 .1 .0 .1)) (s .pre .1 .offset))
+
+returns : tie.Need-returns
+returns c =
+    let t2 = c .before in
+    let x = t2 .before in
+    let t1 = x .before in
+    let a = t1 .before .before .args .a in
+    rw (
+      rw (read (a .part .probe) (t1 .struct-told .given .1 .0 .1)) at (x .probe-at .ensures),
+      rw (read (a .offset) (t2 .struct-told2 .given .1 .1 .0 .1)) at (c .offset-at .ensures),
+    )
+
+pub zero-records-spec : {M : Type 1} → statement M
+zero-records-spec = tie.close (tie.spec probe-at-requires offset-at-requires returns)

@@ -1,0 +1,54 @@
+use mathlib.Core.Path.{_≡_}
+use mir.Facts.{toZ-ofZ}
+use borrow.Author.Needs.{needs}
+use Rattle.package.specs.declared.Branch.the-variants.{One, Two, Three, Four, Five}
+use Rattle.tolerance.proofs.correction_in.Statement.{statement}
+use Rattle.tolerance.proofs.correction_in.Tie as tie
+
+enum-told : tie.Need-enum-told
+enum-told c = search needs
+
+enum-told-2 : tie.Need-enum-told-2
+enum-told-2 c = search needs
+
+enum-told-3 : tie.Need-enum-told-3
+enum-told-3 c = search needs
+
+enum-told-4 : tie.Need-enum-told-4
+enum-told-4 c = search needs
+
+enum-told-5 : tie.Need-enum-told-5
+enum-told-5 c = search needs
+
+returns : tie.Need-returns
+returns c =
+    let s = c .before .before in
+    let e : s .args .b ≡ One = search needs in
+    rw e
+
+returns-2 : tie.Need-returns-2
+returns-2 c =
+    let s = c .before .before in
+    let e : s .args .b ≡ Two = search needs in
+    rw e (toZ-ofZ (s .fits .d))
+
+returns-3 : tie.Need-returns-3
+returns-3 c =
+    let s = c .before .before in
+    let e : s .args .b ≡ Three = search needs in
+    rw e
+
+returns-4 : tie.Need-returns-4
+returns-4 c =
+    let s = c .before .before in
+    let e : s .args .b ≡ Four = search needs in
+    rw e (toZ-ofZ (s .fits .next))
+
+returns-5 : tie.Need-returns-5
+returns-5 c =
+    let s = c .before .before in
+    let e : s .args .b ≡ Five = search needs in
+    rw e (toZ-ofZ (s .fits .d))
+
+pub correction-in-spec : {M : Type 1} → statement M
+correction-in-spec = tie.close (tie.spec enum-told enum-told-2 enum-told-3 enum-told-4 enum-told-5 returns returns-2 returns-3 returns-4 returns-5)

@@ -1,0 +1,80 @@
+-- The parts are those of the rules one after the other; each callee's contract says how large what it gives is.
+use mathlib.Core.Path.{_≡_}
+use mathlib.Core.Bool.{true}
+use Prim.Native.Nat.{_≤_}
+use native.Mathlib.Omega.{arith}
+use lib.IntN.{natAbs}
+use mir.Syntax.{w16, w64}
+use Rattle.signed.specs.CodeLaws.{read, read-as, Widened, widened}
+use Rattle.rules.specs.Sizes.{numbersOk, positionsOk}
+use Rattle.sizes.specs.SizeLaws.{SizesSmall, sizes-small}
+use Rattle.evaluation.specs.FoundSmall.{value-size}
+use Rattle.tool_offset.proofs.Laws.{small-value, found-is}
+use Rattle.tool_offset.proofs.tool_found.Statement.{statement}
+use Rattle.tool_offset.proofs.tool_found.Tie as tie
+
+passed : (s : tie.Start) → let a = s .args .a in (numbersOk (s .args .k) (a .part) ≡ true) × (positionsOk (s .args .k) (a .part) (a .raws) ≡ true)
+passed s = rw (s .pre .0) (s .pre .1 .numbers .numbers, s .pre .1 .positions)
+
+sizes-of-requires : tie.Need-sizes-of-requires
+sizes-of-requires c κs = passed (c .before .before .before .before)
+
+abbrev start : tie.After-sizes-of → tie.Start
+start c = c .before .before .before .before .before
+
+small : (c : tie.After-sizes-of) → SizesSmall (c .sizes-of .result)
+small c =
+    let s = start c in
+    rw (c .sizes-of .ensures) (sizes-small (s .args .r .probe) (s .args .k) (s .args .a .part) (s .args .a .raws) (passed s .1))
+
+-- the empirical value as i64, and its size
+module _ (c : tie.After-struct-told) where
+  abbrev first : tie.Start
+  first = start (c .before .before .before)
+
+  ev : Widened w16 w64 (first .args .r .ev)
+  ev = widened w16 w64 (first .args .r .ev) tt (c .struct-told .given .1 .0 .1)
+
+  ev-size : natAbs (first .args .r .ev) ≤ 32768
+  ev-size = value-size (first .args .r .ev) (small-value (first .args .r .ev) (c .struct-told .given .1 .0 .1))
+
+cast-ev : tie.Need-cast-ev
+cast-ev c = ev c .fits
+
+difference-of-requires : tie.Need-difference-of-requires
+difference-of-requires c κs = let t = small (c .before .before .before) in (t .size, t .setpoint, rw (ev c .value) (ev-size c))
+
+decision-of-requires : tie.Need-decision-of-requires
+decision-of-requires c κs =
+    let d = c .before .difference-of in
+    (first (c .before .before) .pre .1, rw (read (d .result) (d .ok)) (omega (arith, d .ensures .1)))
+
+calibrated-ok-requires : tie.Need-calibrated-ok-requires
+calibrated-ok-requires c κs = passed (first (c .before .before .before)) .0
+
+wear-left-requires : tie.Need-wear-left-requires
+wear-left-requires c κs =
+    let d = c .before .before .decision-of in
+    rw (read (d .result .correction) (c .struct-told3 .given .1 .0 .1)) (d .ensures .1 .correction)
+
+returns : tie.Need-returns
+returns c =
+    let k = c .before .before in
+    let dc = k .before in
+    let t2 = dc .before in
+    let dv = t2 .before in
+    let v = dv .before in
+    let z = v .before .before .before in
+    let s = start z in
+    let d = dv .difference-of in
+    let decision = rw (read-as w16 (s .args .r .mean) (t2 .struct-told2 .given .1 .1 .0 .1), read (d .result) (d .ok)) at (dc .decision-of .ensures .0) in
+    let wear = rw (read (dc .decision-of .result .correction) (c .before .struct-told3 .given .1 .0 .1)) at (c .wear-left .ensures) in
+    rw (ev v .value, read (d .result) (d .ok), read (c .wear-left .result) (c .wear-left .ok)) (
+      found-is (s .args .r) (s .args .a) (s .pre .0) (k .calibrated-ok .ensures) (z .sizes-of .ensures) (rw (ev v .value) at (d .ensures .0)) decision wear,
+      record { sizes = small z; ev = ev-size v; deviation = omega (arith, d .ensures .1); decision = dc .decision-of .ensures .1 },
+    )
+
+pub tool-found-spec : {M : Type 1} → statement M
+tool-found-spec =
+    tie.close
+    (tie.spec sizes-of-requires cast-ev difference-of-requires decision-of-requires calibrated-ok-requires wear-left-requires returns)
