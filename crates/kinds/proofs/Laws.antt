@@ -1,4 +1,4 @@
--- The arms of a match.
+-- The arms of a match, and the elements of lists that are the same.
 use mathlib.Core.Path.{_≡_, refl}
 use mathlib.Core.Logic.{inl, inr}
 use mathlib.Core.List.{List, [], _∷_}
