@@ -7,7 +7,7 @@ use Rattle.rules.specs.Tool.{toolFound, toolRules}
 use Rattle.rules.specs.Calls.{measureTool, toolRead, changes}
 use Rattle.area.specs.Table.{held}
 use Rattle.evaluation.specs.FoundSmall.{FoundSmall}
-use Rattle.measuring.specs.Reply.{lent}
+use Rattle.rules.specs.Measuring.{lent}
 use Rattle.measuring.specs.ReplyLaws.{RefusedOn, DoneOn}
 use Rattle.tool_measuring.specs.declared.ToolOutcome.{ToolOutcome}
 use Rattle.tool_measuring.specs.declared.ToolOutcome.the-variants.{Refused, Done}

@@ -38,7 +38,8 @@ ghost use Rattle.rules.specs.Calls.{measureTool};
 ghost use Rattle.area.specs.Table.{areaLength};
 ghost use Rattle.area.specs.Renewed.{renewedAll};
 ghost use Rattle.area.specs.Called.{answered, called};
-ghost use Rattle.measuring.specs.Reply.{lent, reply, toolReplied};
+ghost use Rattle.rules.specs.Measuring.{lent};
+ghost use Rattle.measuring.specs.Reply.{reply, toolReplied};
 ghost use Rattle.tool_measuring.specs.Outcome.{ToolEvaluated};
 
 // A measurement that is refused, by its number, or done, by what it found.

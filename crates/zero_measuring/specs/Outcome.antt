@@ -7,7 +7,7 @@ use Rattle.rules.specs.Zero.{zeroSizes, zeroRules}
 use Rattle.rules.specs.Calls.{measureZero, zeroRead, changes}
 use Rattle.area.specs.Table.{held}
 use Rattle.sizes.specs.SizeLaws.{SizesSmall}
-use Rattle.measuring.specs.Reply.{lent}
+use Rattle.rules.specs.Measuring.{lent}
 use Rattle.measuring.specs.ReplyLaws.{RefusedOn, DoneOn}
 use Rattle.zero_measuring.specs.declared.ZeroOutcome.{ZeroOutcome}
 use Rattle.zero_measuring.specs.declared.ZeroOutcome.the-variants.{Refused, Done}

@@ -36,7 +36,8 @@ ghost use Rattle.rules.specs.Calls.{measureZero};
 ghost use Rattle.area.specs.Table.{areaLength};
 ghost use Rattle.area.specs.Renewed.{renewedAll};
 ghost use Rattle.area.specs.Called.{answered, called};
-ghost use Rattle.measuring.specs.Reply.{lent, reply, zeroReplied};
+ghost use Rattle.rules.specs.Measuring.{lent};
+ghost use Rattle.measuring.specs.Reply.{reply, zeroReplied};
 ghost use Rattle.zero_measuring.specs.Outcome.{ZeroEvaluated};
 
 // A measurement that is refused, by its number, or done, by its sizes.

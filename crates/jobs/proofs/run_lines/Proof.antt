@@ -10,13 +10,12 @@ use borrow.Author.Needs.{needs}
 use Rattle.lists.specs.Copied.{part-end}
 use Rattle.lists.specs.Written.{written}
 use Rattle.lists.specs.WrittenLaws.{written-length, written-take, written-drop}
-use Rattle.text.specs.Pieces.{upTo, lines, lineFeed}
-use Rattle.text.specs.PieceLaws.{up-take, lines-first, lines-end, has-line}
+use Rattle.text.specs.Pieces.{line, HasLine, lines}
+use Rattle.text.specs.PieceLaws.{lines-first, lines-end, has-line}
 use Rattle.area.specs.Table.{areaLength}
-use Rattle.job_limits.specs.JobRules.{jobRefusal}
 use Rattle.job_limits.specs.JobRuleLaws.{Runs, runs-when}
-use Rattle.job_text.specs.Lines.{saidIn, saidBy}
-use Rattle.job_text.specs.declared.Line.{Line}
+use Rattle.job_text.specs.Letters.{mostFields}
+use Rattle.job_text.specs.Lines.{Said, saidBy}
 use Rattle.job_answers.specs.Answers.{rowText}
 use Rattle.job_answers.specs.AnswerLaws.{Small, at-most-40}
 use Rattle.job_lines.specs.LineCalled.{Ran, ranAs, lineRan}
@@ -26,14 +25,14 @@ use Rattle.jobs.proofs.run_lines.Statement.{statement}
 use Rattle.jobs.proofs.run_lines.Tie as tie
 
 abbrev Inv-loop : tie.InvT-loop
-Inv-loop area₀ job output₀ number₀ at₀ filled₀ area output number at filled =
+Inv-loop area₀ job output₀ values₀ number₀ at₀ filled₀ area output values number at filled =
     (at ≤ length job) × (number + length (lines (drop at job)) ≡ length (lines job)) × (filled ≤ 40 * number)
-    × (length area ≡ areaLength) × (length output ≡ length output₀) × (drop filled output ≡ drop filled output₀)
+    × (length area ≡ areaLength) × (length output ≡ length output₀) × (length values ≡ length values₀) × (drop filled output ≡ drop filled output₀)
     × (linesText area₀ 0 (lines job) ≡ take filled output ++ linesText area number (lines (drop at job)))
     × (linesArea area₀ (lines job) ≡ linesArea area (lines (drop at job)))
 
 abbrev μ-loop : tie.MeasureT-loop
-μ-loop area₀ job output₀ number₀ at₀ filled₀ area output number at filled = length job - at
+μ-loop area₀ job output₀ values₀ number₀ at₀ filled₀ area output values number at filled = length job - at
 
 abbrev start : tie.At-loop Inv-loop μ-loop → tie.Start Inv-loop μ-loop
 start l = l .before .before .before
@@ -50,32 +49,39 @@ rest l = drop (l .loop .at) (job l)
 live : (l : tie.At-loop Inv-loop μ-loop) → Runs (job l) (length (old l))
 live l = runs-when (job l) (length (old l)) (start l .pre .1)
 
--- ---- the line that is found
-abbrev turn : tie.After-find Inv-loop μ-loop → tie.At-loop Inv-loop μ-loop
-turn c = c .before .before .before
-
-on : (c : tie.In-loop Inv-loop μ-loop) → length (upTo lineFeed (rest (c .before))) < length (rest (c .before))
+on : (c : tie.In-loop Inv-loop μ-loop) → HasLine (rest (c .before))
 on c = has-line (job (c .before)) (c .before .loop .at) (omega arith) (live (c .before) .ended)
 
-found : (c : tie.After-find Inv-loop μ-loop)
-    → (c .find .result ≡ length (upTo lineFeed (rest (turn c)))) × (turn c .loop .at + c .find .result < length (job (turn c)))
+-- ---- the line that is read
+abbrev inside : tie.After-read-line Inv-loop μ-loop → tie.In-loop Inv-loop μ-loop
+inside c = c .before .before .before
+
+abbrev turn : tie.After-read-line Inv-loop μ-loop → tie.At-loop Inv-loop μ-loop
+turn c = inside c .before
+
+abbrev size : tie.After-read-line Inv-loop μ-loop → ℕ
+size c = c .read-line .result .length
+
+found : (c : tie.After-read-line Inv-loop μ-loop) → (size c ≡ length (line (rest (turn c)))) × (turn c .loop .at + size c < length (job (turn c)))
 found c =
     let l = turn c in
-    let e : c .find .result ≡ length (upTo lineFeed (rest l)) = c .find .ensures ∙ ap (λ (x : List ℕ). length (upTo lineFeed x)) (part-end (job l) (l .loop .at)) in
-    (e, omega (arith, on (c .before .before), length-drop (l .loop .at) (job l)))
+    let e : size c ≡ length (line (rest l)) = c .read-line .ensures .1 ∙ ap (λ (x : List ℕ). length (line x)) (part-end (job l) (l .loop .at)) in
+    (e, omega (arith, e, on (inside c), length-drop (l .loop .at) (job l)))
 
-abbrev later : tie.After-find Inv-loop μ-loop → List (List ℕ)
-later c = lines (drop (turn c .loop .at + c .find .result + 1) (job (turn c)))
+abbrev next : tie.After-read-line Inv-loop μ-loop → ℕ
+next c = turn c .loop .at + (size c + 1)
 
-more-lines : (c : tie.After-find Inv-loop μ-loop) → lines (rest (turn c)) ≡ upTo lineFeed (rest (turn c)) ∷ later c
+abbrev later : tie.After-read-line Inv-loop μ-loop → List (List ℕ)
+later c = lines (drop (next c) (job (turn c)))
+
+more-lines : (c : tie.After-read-line Inv-loop μ-loop) → lines (rest (turn c)) ≡ line (rest (turn c)) ∷ later c
 more-lines c =
     let l = turn c in
-    let k : l .loop .at + (c .find .result + 1) ≡ l .loop .at + c .find .result + 1 = omega arith in
-    let d : drop (length (upTo lineFeed (rest l)) + 1) (rest l) ≡ drop (l .loop .at + c .find .result + 1) (job l) =
-    rw (← found c .0) (drop-drop (c .find .result + 1) (l .loop .at) (job l) ∙ ap (λ (m : ℕ). drop m (job l)) k) in
-    lines-first (rest l) (on (c .before .before)) ∙ ap (λ (x : List ℕ). upTo lineFeed (rest l) ∷ lines x) d
+    lines-first (rest l) (on (inside c))
+    ∙ ap (λ (n : ℕ). line (rest l) ∷ lines (drop (n + 1) (rest l))) (sym (found c .0))
+    ∙ ap (λ (x : List ℕ). line (rest l) ∷ lines x) (drop-drop (size c + 1) (l .loop .at) (job l))
 
-counted : (c : tie.After-find Inv-loop μ-loop)
+counted : (c : tie.After-read-line Inv-loop μ-loop)
     → (turn c .loop .number + 1 + length (later c) ≡ length (lines (job (turn c)))) × (turn c .loop .number + 1 ≤ 1000)
 counted c =
     let l = turn c in
@@ -84,96 +90,83 @@ counted c =
 
 -- ---- what it leaves and answers
 abbrev reading : tie.After-run-line Inv-loop μ-loop → tie.After-read-line Inv-loop μ-loop
-reading c = c .before
-
-abbrev finding : tie.After-run-line Inv-loop μ-loop → tie.After-find Inv-loop μ-loop
-finding c = reading c .before .before .before
+reading c = c .before .before .before .before
 
 abbrev line-at : tie.After-run-line Inv-loop μ-loop → tie.At-loop Inv-loop μ-loop
-line-at c = turn (finding c)
+line-at c = turn (reading c)
 
 abbrev left : tie.After-run-line Inv-loop μ-loop → Ran
 left c = ranAs (c .run-line .result) (c .run-line .last .0)
 
-stepped : (c : tie.After-run-line Inv-loop μ-loop)
-    → left c ≡ lineRan (line-at c .loop .area) (line-at c .loop .number + 1) (saidBy (upTo lineFeed (rest (line-at c))))
+stepped : (c : tie.After-run-line Inv-loop μ-loop) → left c ≡ lineRan (line-at c .loop .area) (line-at c .loop .number + 1) (saidBy (line (rest (line-at c))))
 stepped c =
     let r = reading c in
-    let f = finding c in
-    let l = turn f in
-    let e : l .loop .at + f .find .result - l .loop .at ≡ f .find .result = omega arith in
-    let t : take (l .loop .at + f .find .result - l .loop .at) (rest l) ≡ upTo lineFeed (rest l) = ap (λ (m : ℕ). take m (rest l)) (e ∙ found f .0) ∙ up-take lineFeed (rest l) in
+    let l = turn r in
     c .run-line .ensures
-    ∙ ap (λ (x : Line). lineRan (l .loop .area) (l .loop .number + 1) (saidIn x)) (r .read-line .ensures)
-    ∙ ap (λ (x : List ℕ). lineRan (l .loop .area) (l .loop .number + 1) (saidBy x)) t
+    ∙ ap (λ (s : Said). lineRan (l .loop .area) (l .loop .number + 1) s)
+    (r .read-line .ensures .0 ∙ ap (λ (x : List ℕ). saidBy (line x)) (part-end (job l) (l .loop .at)))
 
 short : (c : tie.After-run-line Inv-loop μ-loop) → length (rowText (c .run-line .result)) ≤ 40
 short c =
     let l = line-at c in
     let e = c .run-line .ok .1 .1 .1 .1 .0 .1 .1 .1 .1 in
     at-most-40 (c .run-line .result)
-    (subst (λ (o : Ran). Small (o .row)) (sym (stepped c))
-    (row-small (l .loop .area) (l .loop .number + 1) (saidBy (upTo lineFeed (rest l))) (l .loop .inv .3) (counted (finding c) .1)))
+    (subst (λ (o : Ran). Small (o .row)) (sym (stepped c)) (row-small (l .loop .area) (l .loop .number + 1) (saidBy (line (rest l))) (l .loop .inv .3) (counted (reading c) .1)))
     (omega (arith, natAbs-le (c .run-line .result .evaluation .deviation) (e .0 .1)))
     (omega (arith, natAbs-le (c .run-line .result .evaluation .correction) (e .1 .0 .1)))
 
 room : (c : tie.After-run-line Inv-loop μ-loop) → line-at c .loop .filled + length (rowText (c .run-line .result)) ≤ length (line-at c .loop .output)
 room c =
     let l = line-at c in
-    omega (arith, short c, counted (finding c) .0, live l .room, l .loop .inv .2, l .loop .inv .4)
+    omega (arith, short c, counted (reading c) .0, live l .room, l .loop .inv .2, l .loop .inv .4)
 
 loop-holds : tie.Need-loop-holds Inv-loop μ-loop
-loop-holds c = (omega arith, omega arith, omega arith, c .before .before .pre .0, refl, refl, refl, refl)
-
-sub-find : tie.Need-sub-find Inv-loop μ-loop
-sub-find c = omega arith
-
-part-find-start : tie.Need-part-find-start Inv-loop μ-loop
-part-find-start c = search needs
-
-part-find-end : tie.Need-part-find-end Inv-loop μ-loop
-part-find-end c = search needs
-
-find-requires : tie.Need-find-requires Inv-loop μ-loop
-find-requires c κs = tt
-
-add-end : tie.Need-add-end Inv-loop μ-loop
-add-end c = omega (arith, found c)
-
-add-number : tie.Need-add-number Inv-loop μ-loop
-add-number c = omega (arith, counted c)
+loop-holds c = (omega arith, omega arith, omega arith, c .before .before .pre .0, refl, refl, refl, refl, refl)
 
 sub-read-line : tie.Need-sub-read-line Inv-loop μ-loop
 sub-read-line c = omega arith
 
 part-read-line-start : tie.Need-part-read-line-start Inv-loop μ-loop
-part-read-line-start c = omega (arith, found (c .before))
+part-read-line-start c = search needs
 
 part-read-line-end : tie.Need-part-read-line-end Inv-loop μ-loop
-part-read-line-end c = omega (arith, found (c .before))
+part-read-line-end c = search needs
 
 read-line-requires : tie.Need-read-line-requires Inv-loop μ-loop
-read-line-requires c κs = tt
+read-line-requires c κs =
+    let i = c .before .before in
+    let l = i .before in
+    (subst HasLine (sym (part-end (job l) (l .loop .at))) (on i), omega (arith, l .loop .inv .5, start l .pre .2))
+
+add-number : tie.Need-add-number Inv-loop μ-loop
+add-number c = omega (arith, counted (c .before))
 
 run-line-requires : tie.Need-run-line-requires Inv-loop μ-loop
-run-line-requires c κs = tt
+run-line-requires c κs =
+    let r = c .before .before .before in
+    omega (arith, r .read-line .kept, turn r .loop .inv .5, start (turn r) .pre .2)
 
 put-row-requires : tie.Need-put-row-requires Inv-loop μ-loop
 put-row-requires c κs = room (c .before .before)
 
 add-at : tie.Need-add-at Inv-loop μ-loop
 add-at c =
-    let f = c .before .before .before .before .before .before .before .before .before in
-    omega (arith, found f, live (turn f) .size)
+    let r = reading (c .before .before .before .before .before .before) in
+    omega (arith, found r, live (turn r) .size)
+
+add-at-2 : tie.Need-add-at-2 Inv-loop μ-loop
+add-at-2 c =
+    let r = reading (c .before .before .before .before .before .before) in
+    omega (arith, found r, live (turn r) .size)
 
 loop-less : tie.Need-loop-less Inv-loop μ-loop
-loop-less c = omega (arith, found (c .before .before .before .before .before .before .before .before .before))
+loop-less c = omega (arith, found (reading (c .before .before .before .before .before .before)))
 
 loop-again : tie.Need-loop-again Inv-loop μ-loop
 loop-again c =
-    let w = c .before .before in
+    let w = c .before .before .before in
     let st = w .before .before .before in
-    let f = finding st in
+    let f = reading st in
     let l = turn f in
     let o = left st in
     let t = rowText (o .row) in
@@ -187,15 +180,16 @@ loop-again c =
       omega (arith, r, short st, l .loop .inv .2),
       st .run-line .kept .0 ∙ l .loop .inv .3,
       ap length b ∙ written-length out n t h ∙ l .loop .inv .4,
-      rw (r, b) (written-drop out n t h ∙ drop-more out (old l) n (length t) (l .loop .inv .5)),
+      f .read-line .kept .1 .0 ∙ l .loop .inv .5,
+      rw (r, b) (written-drop out n t h ∙ drop-more out (old l) n (length t) (l .loop .inv .6)),
       rw (r, b, written-take out n t h)
-          (l .loop .inv .6
+          (l .loop .inv .7
           ∙ ap (λ (x : List (List ℕ)). take n out ++ linesText (l .loop .area) (l .loop .number) x) (more-lines f)
-          ∙ ap (λ (x : List ℕ). take n out ++ x) (text-step (l .loop .area) (l .loop .number) (upTo lineFeed (rest l)) (later f) o (stepped st))
+          ∙ ap (λ (x : List ℕ). take n out ++ x) (text-step (l .loop .area) (l .loop .number) (line (rest l)) (later f) o (stepped st))
           ∙ sym (append-assoc (take n out) t (linesText (o .area) (l .loop .number + 1) (later f)))),
-      l .loop .inv .7
+      l .loop .inv .8
           ∙ ap (linesArea (l .loop .area)) (more-lines f)
-          ∙ area-step (l .loop .area) (l .loop .number) (upTo lineFeed (rest l)) (later f) o (stepped st),
+          ∙ area-step (l .loop .area) (l .loop .number) (line (rest l)) (later f) o (stepped st),
     )
 
 same-length : tie.Need-same-length Inv-loop μ-loop
@@ -203,6 +197,9 @@ same-length c = c .before .loop .inv .3 ∙ sym (start (c .before) .pre .0)
 
 same-length-2 : tie.Need-same-length-2 Inv-loop μ-loop
 same-length-2 c = c .before .loop .inv .4
+
+same-length-3 : tie.Need-same-length-3 Inv-loop μ-loop
+same-length-3 c = c .before .loop .inv .5
 
 returns : tie.Need-returns Inv-loop μ-loop
 returns c =
@@ -212,19 +209,19 @@ returns c =
     let none = lines-end (job l) (l .loop .at) (omega arith) in
     let a = start l .args .area .now in
     let txt : linesText a 0 (lines (job l)) ≡ take n out =
-    l .loop .inv .6
+    l .loop .inv .7
     ∙ ap (λ (x : List (List ℕ)). take n out ++ linesText (l .loop .area) (l .loop .number) x) none
     ∙ ap (λ (x : List ℕ). take n out ++ x) (text-none (l .loop .area) (l .loop .number))
     ∙ append-nil (take n out) in
-    let aft : linesArea a (lines (job l)) ≡ l .loop .area = l .loop .inv .7 ∙ ap (linesArea (l .loop .area)) none ∙ area-none (l .loop .area) in
+    let aft : linesArea a (lines (job l)) ≡ l .loop .area = l .loop .inv .8 ∙ ap (linesArea (l .loop .area)) none ∙ area-none (l .loop .area) in
     let len : length (take n out) ≡ n = length-take-le n out (omega (arith, l .loop .inv .1, l .loop .inv .2, l .loop .inv .4, live l .room)) in (
       sym (ap length txt ∙ len),
       (sym aft,
-      rw txt (from-start (old l) out (take n out) (rw (len, ← l .loop .inv .5) (sym (take-append-drop n out))))),
+      rw txt (from-start (old l) out (take n out) (rw (len, ← l .loop .inv .6) (sym (take-append-drop n out))))),
     )
 
 pub run-lines-spec : {M : Type 1} → statement M
 run-lines-spec =
     tie.close
-    (tie.spec Inv-loop μ-loop loop-holds sub-find part-find-start part-find-end find-requires add-end add-number sub-read-line part-read-line-start part-read-line-end
-    read-line-requires run-line-requires put-row-requires add-at loop-less loop-again same-length same-length-2 returns)
+    (tie.spec Inv-loop μ-loop loop-holds sub-read-line part-read-line-start part-read-line-end read-line-requires add-number run-line-requires put-row-requires add-at add-at-2
+    loop-less loop-again same-length same-length-2 same-length-3 returns)

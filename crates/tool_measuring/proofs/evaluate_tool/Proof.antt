@@ -22,7 +22,7 @@ use Rattle.rules.specs.Changes.{Change, write}
 use Rattle.rules.specs.Calls.{measureTool, meaning, toolRead}
 use Rattle.area.specs.Table.{held}
 use Rattle.area.specs.Renewed.{renewedAll}
-use Rattle.measuring.specs.Reply.{lent}
+use Rattle.rules.specs.Measuring.{lent}
 use Rattle.measuring.specs.ReplyLaws.{argument-refusal}
 use Rattle.tool_measuring.proofs.evaluate_tool.Statement.{statement}
 use Rattle.tool_measuring.proofs.evaluate_tool.Tie as tie

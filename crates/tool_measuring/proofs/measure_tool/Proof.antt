@@ -16,7 +16,7 @@ use Rattle.rules.specs.Results.{toolEvaluation, toolFilled}
 use Rattle.rules.specs.Calls.{measureTool, toolRead, refusal}
 use Rattle.rules.specs.EvaluationLaws.{refusal-small}
 use Rattle.area.specs.Table.{held}
-use Rattle.measuring.specs.Reply.{lent}
+use Rattle.rules.specs.Measuring.{lent}
 use Rattle.measuring.specs.ReplyLaws.{Way, toolWay, wrong-area, no-room, refused, done}
 use Rattle.tool_measuring.specs.Outcome.{ToolEvaluated}
 use Rattle.tool_measuring.specs.declared.ToolOutcome.{ToolOutcome}

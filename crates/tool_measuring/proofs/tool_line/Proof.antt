@@ -4,7 +4,7 @@ use Rattle.signed.specs.CodeLaws.{read}
 use Rattle.rules.specs.Results.{toolEvaluation}
 use Rattle.rules.specs.Calls.{Call, measureTool}
 use Rattle.area.specs.CalledLaws.{call-wrong, call-refused, call-done}
-use Rattle.measuring.specs.Reply.{lent}
+use Rattle.rules.specs.Measuring.{lent}
 use Rattle.tool_measuring.specs.Outcome.{ToolEvaluated}
 use Rattle.tool_measuring.specs.declared.ToolOutcome.{ToolOutcome}
 use Rattle.tool_measuring.proofs.tool_line.Statement.{statement}

@@ -16,7 +16,7 @@ use Rattle.rules.specs.Results.{zeroEvaluation, zeroFilled}
 use Rattle.rules.specs.Calls.{measureZero, zeroRead, refusal}
 use Rattle.rules.specs.EvaluationLaws.{refusal-small}
 use Rattle.area.specs.Table.{held}
-use Rattle.measuring.specs.Reply.{lent}
+use Rattle.rules.specs.Measuring.{lent}
 use Rattle.measuring.specs.ReplyLaws.{Way, zeroWay, wrong-area, no-room, refused, done}
 use Rattle.zero_measuring.specs.Outcome.{ZeroEvaluated}
 use Rattle.zero_measuring.specs.declared.ZeroOutcome.{ZeroOutcome}

@@ -1,0 +1,170 @@
+// The calls for C: each hands on to the call in place, on the area that the caller lends.
+use arguments::tool_of;
+use arguments::zero_of;
+use area::AREA;
+use area::WRONG_AREA;
+use calibrating::calibrate;
+use calibrating::probe_status;
+use jobs::Ran;
+use jobs::run_job;
+use measuring::Decided;
+use measuring::not_decided;
+use memory::load;
+use memory::save;
+use package::Calibration;
+use package::Status;
+use settings::fresh;
+use settings::set_empirical;
+use settings::set_offset;
+use settings::set_wear;
+use tool_measuring::measure_tool;
+use zero_measuring::measure_zero;
+ghost use mathlib.Core.Path.{_≡_};
+ghost use Rattle.rules.specs.Calls.{setEmpirical, setWear, setOffset, calibrate, load};
+ghost use Rattle.area.specs.Called.{left, called, freshCalled};
+ghost use Rattle.calibrating.specs.StatusRead.{statusCalled};
+ghost use Rattle.memory.specs.Saved.{savedAs, saveCalled};
+ghost use Rattle.measuring.specs.Reply.{reply};
+ghost use Rattle.jobs.specs.Jobs.{jobLeft, jobCalled};
+ghost use Rattle.boundary.specs.Exported.{calibration, toolExported, zeroExported};
+
+// The refusal of arguments that are not as many as a measurement's, and how many these are.
+pub const WRONG_ARGUMENTS: u32 = 101;
+
+const TOOL_NUMBERS: usize = 21;
+
+const ZERO_NUMBERS: usize = 13;
+
+// Writes the fresh package, every record 0.
+#[no_mangle]
+pub extern "C" fn mezhtolik_fresh(area: &mut [i32]) -> u32
+    ensures { λ r. ⌜ left r (now (area .exit)) ≡ freshCalled (now (area .entry)) ⌝ }
+{
+    fresh(area)
+}
+
+// Replaces one empirical value.
+#[no_mangle]
+pub extern "C" fn mezhtolik_set_empirical(area: &mut [i32], ev: i64, value: i64) -> u32
+    ensures { λ r. ⌜ left r (now (area .exit)) ≡ called (now (area .entry)) (setEmpirical ev value) ⌝ }
+{
+    set_empirical(area, ev, value)
+}
+
+// Replaces one tool's two wears.
+#[no_mangle]
+pub extern "C" fn mezhtolik_set_wear(area: &mut [i32], tool: i64, radius: i64, length: i64) -> u32
+    ensures { λ r. ⌜ left r (now (area .exit)) ≡ called (now (area .entry)) (setWear tool radius length) ⌝ }
+{
+    set_wear(area, tool, radius, length)
+}
+
+// Replaces one zero offset on its three axes.
+#[no_mangle]
+pub extern "C" fn mezhtolik_set_offset(
+    area: &mut [i32],
+    offset: i64,
+    v1: i64,
+    v2: i64,
+    v3: i64,
+) -> u32
+    ensures { λ r. ⌜ left r (now (area .exit)) ≡ called (now (area .entry)) (setOffset offset v1 v2 v3) ⌝ }
+{
+    set_offset(area, offset, v1, v2, v3)
+}
+
+// Calibrates one direction of a probe.
+#[no_mangle]
+pub extern "C" fn mezhtolik_calibrate(
+    area: &mut [i32],
+    probe: i64,
+    axis: i64,
+    direction: i64,
+    setpoint: i64,
+    raw: i64,
+    tzl: i64,
+    tsa: i64,
+) -> u32
+    ensures { λ r. ⌜ left r (now (area .exit)) ≡ called (now (area .entry)) (calibrate (calibration probe axis direction setpoint raw tzl tsa)) ⌝ }
+{
+    let a = Calibration {
+        probe,
+        axis,
+        direction,
+        setpoint,
+        raw,
+        tzl,
+        tsa,
+    };
+    calibrate(area, a)
+}
+
+// The bits of a probe's status and the number of directions calibrated.
+#[no_mangle]
+pub extern "C" fn mezhtolik_probe_status(area: &[i32], probe: i64) -> Status
+    ensures { λ r. ⌜ r ≡ statusCalled (now (area .entry)) probe ⌝ }
+{
+    probe_status(area, probe)
+}
+
+// Measures with tool offset by 21 numbers and writes the 42 numbers that begin at place.
+#[no_mangle]
+pub extern "C" fn mezhtolik_measure_tool(
+    area: &mut [i32],
+    numbers: &[i64],
+    results: &mut [i32],
+    place: usize,
+) -> Decided
+    ensures { λ r. ⌜ reply r (now (area .exit)) (now (results .exit)) ≡ toolExported (now (area .entry)) (now (numbers .entry)) (now (results .entry)) place ⌝ }
+{
+    if area.len() != AREA {
+        return not_decided(WRONG_AREA);
+    }
+    if numbers.len() != TOOL_NUMBERS {
+        return not_decided(WRONG_ARGUMENTS);
+    }
+    measure_tool(area, tool_of(numbers), results, place)
+}
+
+// Measures with zero offset by 13 numbers and writes the 42 numbers that begin at place.
+#[no_mangle]
+pub extern "C" fn mezhtolik_measure_zero(
+    area: &mut [i32],
+    numbers: &[i64],
+    results: &mut [i32],
+    place: usize,
+) -> Decided
+    ensures { λ r. ⌜ reply r (now (area .exit)) (now (results .exit)) ≡ zeroExported (now (area .entry)) (now (numbers .entry)) (now (results .entry)) place ⌝ }
+{
+    if area.len() != AREA {
+        return not_decided(WRONG_AREA);
+    }
+    if numbers.len() != ZERO_NUMBERS {
+        return not_decided(WRONG_ARGUMENTS);
+    }
+    measure_zero(area, zero_of(numbers), results, place)
+}
+
+// Replaces all empirical and mean values by those of a block of 80 bytes.
+#[no_mangle]
+pub extern "C" fn mezhtolik_load(area: &mut [i32], bytes: &[u8]) -> u32
+    ensures { λ r. ⌜ left r (now (area .exit)) ≡ called (now (area .entry)) (load (now (bytes .entry))) ⌝ }
+{
+    load(area, bytes)
+}
+
+// Writes the block of all empirical and mean values to the first 80 bytes of the buffer.
+#[no_mangle]
+pub extern "C" fn mezhtolik_save(area: &[i32], buffer: &mut [u8]) -> u32
+    ensures { λ r. ⌜ savedAs r (now (buffer .exit)) ≡ saveCalled (now (area .entry)) (now (buffer .entry)) ⌝ }
+{
+    save(area, buffer)
+}
+
+// Runs a job and writes the answers of its lines to the front of the output.
+#[no_mangle]
+pub extern "C" fn mezhtolik_run_job(area: &mut [i32], job: &[u8], output: &mut [u8]) -> Ran
+    ensures { λ r. ⌜ jobLeft (r .refusal) (r .length) (now (area .exit)) (now (output .exit)) ≡ jobCalled (now (area .entry)) (now (job .entry)) (now (output .entry)) ⌝ }
+{
+    run_job(area, job, output)
+}
