@@ -28,18 +28,18 @@ fits r = output-fits _ _ _ (r .run-job .ensures) (r .run-job .kept .1 .1 .0)
 
 refused-requires : tie.Need-refused-requires
 refused-requires c κs e =
-    let r = c .before .before .before in
+    let r = c .before .before .before .before in
     empty-refused _ _ _ (r .run-job .ensures) (search needs) e
 
 returns : tie.Need-returns
 returns c = search needs
 
 array-share-prefix-output : tie.Need-array-share-prefix-output
-array-share-prefix-output c = fits (c .before .before .before)
+array-share-prefix-output c = fits (c .before .before .before .before)
 
 slice-aggregate-write-all : tie.Need-slice-aggregate-write-all
 slice-aggregate-write-all c =
-    let r = c .before .before .before .before in
+    let r = c .before .before .before .before .before in
     sym (length-take-le (r .run-job .result .length) (r .run-job .last .1 .1 .0) (fits r))
 
 write-all-requires : tie.Need-write-all-requires

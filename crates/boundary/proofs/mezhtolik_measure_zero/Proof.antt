@@ -1,0 +1,57 @@
+use mathlib.Core.Path.{ap, _∙_}
+use borrow.Author.Needs.{needs}
+use Rattle.package.specs.declared.ZeroMeasurement.{ZeroMeasurement}
+use Rattle.arguments.specs.Arguments.{zeroOf}
+use Rattle.measuring.specs.Reply.{Reply, zeroReplied}
+use Rattle.boundary.specs.ExportedLaws.{exported-wrong, exported-short, exported-made}
+use Rattle.boundary.proofs.mezhtolik_measure_zero.Statement.{statement}
+use Rattle.boundary.proofs.mezhtolik_measure_zero.Tie as tie
+
+abbrev wanted : tie.Start → Reply
+wanted s = zeroReplied (s .args .area .now) (zeroOf (s .args .numbers .now)) (s .args .results .now) (s .args .place)
+
+not-decided-requires : tie.Need-not-decided-requires
+not-decided-requires c κs = search needs
+
+returns : tie.Need-returns
+returns c =
+    let s = c .before .before in
+    rw (c .not-decided .ensures) (exported-wrong (s .args .area .now) (s .args .numbers .now) (s .args .results .now) 13 (wanted s) (c .before .if1 .taken))
+
+not-decided-requires-2 : tie.Need-not-decided-requires-2
+not-decided-requires-2 c κs = search needs
+
+returns-2 : tie.Need-returns-2
+returns-2 c =
+    let t = c .before in
+    let e = t .before in
+    let s = e .before in
+    rw (c .not-decided2 .ensures)
+    (exported-short (s .args .area .now) (s .args .numbers .now) (s .args .results .now) 13 (wanted s) (e .if1 .left) (t .if2 .taken))
+
+zero-of-requires : tie.Need-zero-of-requires
+zero-of-requires c κs = search needs
+
+measure-zero-requires : tie.Need-measure-zero-requires
+measure-zero-requires c κs = search needs
+
+same-length : tie.Need-same-length
+same-length c = search needs
+
+same-length-2 : tie.Need-same-length-2
+same-length-2 c = search needs
+
+returns-3 : tie.Need-returns-3
+returns-3 c =
+    let m = c .before .before in
+    let o = m .before .before in
+    let t = o .before .before in
+    let e = t .before in
+    let s = e .before in
+    exported-made (s .args .area .now) (s .args .numbers .now) (s .args .results .now) 13 (wanted s) (e .if1 .left) (t .if2 .left)
+    (m .measure-zero .ensures ∙ ap (λ (a : ZeroMeasurement). zeroReplied (s .args .area .now) a (s .args .results .now) (s .args .place)) (o .zero-of .ensures))
+
+pub mezhtolik-measure-zero-spec : {M : Type 1} → statement M
+mezhtolik-measure-zero-spec =
+    tie.close
+    (tie.spec not-decided-requires returns not-decided-requires-2 returns-2 zero-of-requires measure-zero-requires same-length same-length-2 returns-3)
