@@ -14,8 +14,8 @@ use area::TOOLS;
 use check::same;
 use layout::write_numbers;
 use measuring::Decided;
-use measuring::mezhtolik_measure_tool;
-use measuring::mezhtolik_measure_zero;
+use boundary::mezhtolik_measure_tool;
+use boundary::mezhtolik_measure_zero;
 
 // The places of a result array, those of the manual's first array, and the greatest length of an array here.
 const RESULTS: usize = 42;

@@ -71,7 +71,7 @@ fn set(area: &mut [i32], mark: u8, word: &[u8], f: Fields) {
         return offset(area, mark, f);
     }
     if is(word, b"fresh", f.count, 0) {
-        answered(mark, calls::mezhtolik_fresh(area));
+        answered(mark, boundary::mezhtolik_fresh(area));
         return;
     }
     if is(word, b"number", f.count, 2) {
@@ -83,7 +83,7 @@ fn set(area: &mut [i32], mark: u8, word: &[u8], f: Fields) {
 // Nothing is changed: a call that only reads, or a record shown.
 fn look(area: &[i32], mark: u8, word: &[u8], f: Fields) {
     if is(word, b"status", f.count, 1) {
-        return status(mark, calls::mezhtolik_probe_status(area, f.numbers[0]));
+        return status(mark, boundary::mezhtolik_probe_status(area, f.numbers[0]));
     }
     if is(word, b"save", f.count, 1) {
         return save(area, mark, f.sizes[0]);
@@ -130,14 +130,14 @@ pub fn answered(mark: u8, refusal: u32) -> bool {
 
 fn empirical(area: &mut [i32], mark: u8, f: Fields) {
     let n = f.numbers;
-    if answered(mark, calls::mezhtolik_set_empirical(area, n[0], n[1])) {
+    if answered(mark, boundary::mezhtolik_set_empirical(area, n[0], n[1])) {
         named(b"EV", record(&area[..], EMPIRICALS, f.sizes[0]));
     }
 }
 
 fn wear(area: &mut [i32], mark: u8, f: Fields) {
     let n = f.numbers;
-    if answered(mark, calls::mezhtolik_set_wear(area, n[0], n[1], n[2])) {
+    if answered(mark, boundary::mezhtolik_set_wear(area, n[0], n[1], n[2])) {
         let wears = record(&area[..], TOOLS, f.sizes[0]);
         named(b"radius", part(wears, 0, 1));
         named(b"length", part(wears, 1, 1));
@@ -146,7 +146,7 @@ fn wear(area: &mut [i32], mark: u8, f: Fields) {
 
 fn offset(area: &mut [i32], mark: u8, f: Fields) {
     let n = f.numbers;
-    let refusal = calls::mezhtolik_set_offset(area, n[0], n[1], n[2], n[3]);
+    let refusal = boundary::mezhtolik_set_offset(area, n[0], n[1], n[2], n[3]);
     if answered(mark, refusal) {
         named(b"axes", record(&area[..], OFFSETS, f.sizes[0]));
     }
@@ -154,12 +154,12 @@ fn offset(area: &mut [i32], mark: u8, f: Fields) {
 
 fn calibration(area: &mut [i32], mark: u8, f: Fields) {
     let n = f.numbers;
-    let refusal = calls::mezhtolik_calibrate(area, n[0], n[1], n[2], n[3], n[4], n[5], n[6]);
+    let refusal = boundary::mezhtolik_calibrate(area, n[0], n[1], n[2], n[3], n[4], n[5], n[6]);
     if answered(mark, refusal) {
         let t = trigger(record(&area[..], PROBES, f.sizes[0]), f.sizes[1], n[2]);
         named(b"trigger", t);
         if 0 < t.len() {
-            bits(calls::mezhtolik_probe_status(&area[..], n[0]));
+            bits(boundary::mezhtolik_probe_status(&area[..], n[0]));
         }
     }
 }
@@ -202,7 +202,7 @@ fn load(area: &mut [i32], mark: u8, f: Fields) {
     let bytes = f.bytes;
     if answered(
         mark,
-        calls::mezhtolik_load(area, first_bytes(&bytes, f.count)),
+        boundary::mezhtolik_load(area, first_bytes(&bytes, f.count)),
     ) {
         print::ends(b"EV", section(&area[..], EMPIRICALS));
         print::ends(b"MV", section(&area[..], MEANS));
@@ -219,7 +219,7 @@ fn save(area: &[i32], mark: u8, length: usize) {
 }
 
 fn saved(area: &[i32], mark: u8, buffer: &mut [u8]) {
-    if answered(mark, calls::mezhtolik_save(area, buffer)) {
+    if answered(mark, boundary::mezhtolik_save(area, buffer)) {
         text(b" bytes");
         print::hexadecimal(buffer);
     }
