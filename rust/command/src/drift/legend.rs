@@ -1,0 +1,138 @@
+//! The signs of the picture, and the legends that name them.
+
+use super::panel::{LEFT, RIGHT};
+use super::svg::{Drawing, Place};
+
+/// What stands in a diagram. Each is a class of the picture's style.
+#[derive(Clone, Copy, PartialEq, Eq)]
+pub enum Sign {
+    Part,
+    Stored,
+    Exact,
+    Band,
+    Tzl,
+    UpByMean,
+    DownByMean,
+    ByDeviation,
+    InFull,
+    Refused,
+    KChange,
+    WearSet,
+    Outside,
+}
+
+enum Shape {
+    Line,
+    Area,
+    Upright,
+    Point {
+        radius: f64,
+    },
+    /// The corners around the place.
+    Polygon(&'static [Place]),
+    Cross,
+}
+
+/// Half the size of a correction's sign and of a cross.
+const HALF: f64 = 5.0;
+const ARM: f64 = 4.0;
+const UPWARDS: [Place; 3] = [(-HALF, HALF), (0.0, -HALF), (HALF, HALF)];
+const DOWNWARDS: [Place; 3] = [(-HALF, -HALF), (HALF, -HALF), (0.0, HALF)];
+const DIAMOND: [Place; 4] = [(-HALF, 0.0), (0.0, -HALF), (HALF, 0.0), (0.0, HALF)];
+const SQUARE: [Place; 4] = [(-4.5, -4.5), (4.5, -4.5), (4.5, 4.5), (-4.5, 4.5)];
+
+/// A legend: what a sample of a line takes, its distance from the text and to the next sample, a row, and about the width of a character.
+const SAMPLE: f64 = 24.0;
+const GAP: f64 = 7.0;
+const BETWEEN: f64 = 22.0;
+const ROW: f64 = 19.0;
+pub const CHARACTER: f64 = 6.5;
+
+impl Sign {
+    pub fn class(self) -> &'static str {
+        match self {
+            Sign::Part => "part",
+            Sign::Stored => "stored",
+            Sign::Exact => "exact",
+            Sign::Band => "band",
+            Sign::Tzl => "tzl",
+            Sign::UpByMean | Sign::DownByMean => "by-mean",
+            Sign::ByDeviation => "by-deviation",
+            Sign::InFull => "in-full",
+            Sign::Refused => "refused",
+            Sign::KChange => "k-change",
+            Sign::WearSet => "wear-set",
+            Sign::Outside => "outside",
+        }
+    }
+
+    fn shape(self) -> Shape {
+        match self {
+            Sign::Stored | Sign::Exact | Sign::Tzl => Shape::Line,
+            Sign::Band => Shape::Area,
+            Sign::KChange | Sign::WearSet => Shape::Upright,
+            Sign::Part => Shape::Point { radius: 2.5 },
+            Sign::Outside => Shape::Point { radius: 5.5 },
+            Sign::UpByMean => Shape::Polygon(&UPWARDS),
+            Sign::DownByMean => Shape::Polygon(&DOWNWARDS),
+            Sign::ByDeviation => Shape::Polygon(&DIAMOND),
+            Sign::InFull => Shape::Polygon(&SQUARE),
+            Sign::Refused => Shape::Cross,
+        }
+    }
+
+    fn width(self) -> f64 {
+        match self.shape() {
+            Shape::Line | Shape::Area => SAMPLE,
+            _ => 2.0 * HALF,
+        }
+    }
+
+    /// Marks a place, with the words that a viewer shows when it is pointed at.
+    pub fn mark(self, drawing: &mut Drawing, place: Place, words: &str) {
+        let around = |corners: &[Place]| {
+            corners
+                .iter()
+                .map(|corner| (place.0 + corner.0, place.1 + corner.1))
+                .collect()
+        };
+        match self.shape() {
+            Shape::Point { radius } => drawing.point(self.class(), place, radius, words),
+            Shape::Polygon(corners) => drawing.polygon(self.class(), around(corners), words),
+            Shape::Cross => drawing.runs(
+                self.class(),
+                &[
+                    around(&[(-ARM, -ARM), (ARM, ARM)]),
+                    around(&[(-ARM, ARM), (ARM, -ARM)]),
+                ],
+            ),
+            Shape::Line | Shape::Area | Shape::Upright => {}
+        }
+    }
+
+    /// A sample whose left middle is at a place.
+    fn sample(self, drawing: &mut Drawing, (x, y): Place) {
+        let class = self.class();
+        match self.shape() {
+            Shape::Line => drawing.line(class, (x, y), (x + SAMPLE, y)),
+            Shape::Area => drawing.rectangle(class, (x, y - HALF), (SAMPLE, 2.0 * HALF)),
+            Shape::Upright => drawing.line(class, (x + HALF, y - 8.0), (x + HALF, y + 8.0)),
+            _ => self.mark(drawing, (x + HALF, y), ""),
+        }
+    }
+}
+
+/// Draws a legend whose first row begins at a height, and gives the height below it.
+pub fn legend(drawing: &mut Drawing, top: f64, entries: &[(Sign, String)]) -> f64 {
+    let (mut x, mut y) = (LEFT, top + ROW / 2.0);
+    for (sign, words) in entries {
+        let width = sign.width() + GAP + CHARACTER * words.chars().count() as f64;
+        if x > LEFT && x + width > RIGHT {
+            (x, y) = (LEFT, y + ROW);
+        }
+        sign.sample(drawing, (x, y));
+        drawing.text("legend", (x + sign.width() + GAP, y + 4.0), words);
+        x += width + BETWEEN;
+    }
+    y + ROW / 2.0
+}
