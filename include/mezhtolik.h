@@ -73,7 +73,7 @@ enum {
     MEZHTOLIK_WRONG_LIMITS = 4,     /* limits of a measurement that do not rise as they should */
     MEZHTOLIK_UNCALIBRATED = 5,     /* a direction that the measurement needs is not calibrated */
     MEZHTOLIK_NO_WIDTH = 6,         /* a pair whose high surface is not above its low one */
-    MEZHTOLIK_BEYOND_TSA = 7,       /* the deviation or change is larger than TSA */
+    MEZHTOLIK_BEYOND_TSA = 7,       /* the deviation or change is larger than TSA; a hole given for a shaft does this */
     MEZHTOLIK_BEYOND_TDIF = 8,      /* the deviation is larger than TDIF */
     MEZHTOLIK_LEAVES_RANGE = 9,     /* a trigger, wear or offset would leave its range */
     MEZHTOLIK_MALFORMED_LINE = 10,  /* a line of a job is malformed or has over 200 bytes; only in the answer of that line */
@@ -126,7 +126,7 @@ enum {
     MEZHTOLIK_KIND_SHAFT = 2,         /* the same outside */
     MEZHTOLIK_KIND_GROOVE = 3,        /* inside, low and high on axis 1 or 2 */
     MEZHTOLIK_KIND_WEB = 4,           /* the same outside */
-    MEZHTOLIK_KIND_ZERO_PLANE = 100,  /* the offset of its axis grows by the deviation */
+    MEZHTOLIK_KIND_ZERO_PLANE = 100,  /* the offset of its axis grows by the deviation, twice as many h as u */
     MEZHTOLIK_KIND_ZERO_HOLE = 101,   /* the offsets of axes 1 and 2 grow by the shift of the centre */
     MEZHTOLIK_KIND_ZERO_SHAFT = 102,  /* the same outside */
     MEZHTOLIK_KIND_ZERO_GROOVE = 103, /* the offset of its axis grows by the shift of the centre */
@@ -181,8 +181,8 @@ enum {
     MEZHTOLIK_BRANCH_NONE = 0,        /* refused */
     MEZHTOLIK_BRANCH_WITHIN_TZL = 1,  /* no mean named, |D| at most TZL: corrects nothing */
     MEZHTOLIK_BRANCH_DEVIATION = 2,   /* no mean named, |D| above TZL and at most TMV: corrects by D */
-    MEZHTOLIK_BRANCH_MEAN_KEPT = 3,   /* the new mean is at most TZL in size: it is kept, and nothing is corrected */
-    MEZHTOLIK_BRANCH_MEAN = 4,        /* the new mean is above TZL in size: corrects by it, and the mean becomes 0 */
+    MEZHTOLIK_BRANCH_MEAN_KEPT = 3,   /* a mean named, |D| at most TMV, the new mean at most TZL in size: it is kept, and nothing is corrected */
+    MEZHTOLIK_BRANCH_MEAN = 4,        /* a mean named, |D| at most TMV, the new mean above TZL in size: corrects by it, and the mean becomes 0 */
     MEZHTOLIK_BRANCH_BEYOND_TMV = 5,  /* |D| above TMV: corrects by D, and the mean becomes 0 where one is named */
     MEZHTOLIK_BRANCH_ZERO_OFFSET = 6  /* the zero offset grew */
 };
