@@ -41,12 +41,11 @@ const DOWNWARDS: [Place; 3] = [(-HALF, -HALF), (HALF, -HALF), (0.0, HALF)];
 const DIAMOND: [Place; 4] = [(-HALF, 0.0), (0.0, -HALF), (HALF, 0.0), (0.0, HALF)];
 const SQUARE: [Place; 4] = [(-4.5, -4.5), (4.5, -4.5), (4.5, 4.5), (-4.5, 4.5)];
 
-/// A legend: what a sample of a line takes, its distance from the text and to the next sample, a row, and about the width of a character.
-const SAMPLE: f64 = 24.0;
-const GAP: f64 = 7.0;
-const BETWEEN: f64 = 22.0;
+/// A legend: its columns and rows, what a sample of a line takes, and where the text begins behind the sample's left edge.
+const COLUMNS: usize = 3;
 const ROW: f64 = 19.0;
-pub const CHARACTER: f64 = 6.5;
+const SAMPLE: f64 = 24.0;
+const TEXT: f64 = 32.0;
 
 impl Sign {
     pub fn class(self) -> &'static str {
@@ -81,13 +80,6 @@ impl Sign {
         }
     }
 
-    fn width(self) -> f64 {
-        match self.shape() {
-            Shape::Line | Shape::Area => SAMPLE,
-            _ => 2.0 * HALF,
-        }
-    }
-
     /// Marks a place, with the words that a viewer shows when it is pointed at.
     pub fn mark(self, drawing: &mut Drawing, place: Place, words: &str) {
         let around = |corners: &[Place]| {
@@ -112,27 +104,26 @@ impl Sign {
 
     /// A sample whose left middle is at a place.
     fn sample(self, drawing: &mut Drawing, (x, y): Place) {
-        let class = self.class();
+        let (class, middle) = (self.class(), x + SAMPLE / 2.0);
         match self.shape() {
             Shape::Line => drawing.line(class, (x, y), (x + SAMPLE, y)),
             Shape::Area => drawing.rectangle(class, (x, y - HALF), (SAMPLE, 2.0 * HALF)),
-            Shape::Upright => drawing.line(class, (x + HALF, y - 8.0), (x + HALF, y + 8.0)),
-            _ => self.mark(drawing, (x + HALF, y), ""),
+            Shape::Upright => drawing.line(class, (middle, y - 8.0), (middle, y + 8.0)),
+            _ => self.mark(drawing, (middle, y), ""),
         }
     }
 }
 
-/// Draws a legend whose first row begins at a height, and gives the height below it.
+/// Draws a legend below a height, and gives the height below it. The last text of a row may run on.
 pub fn legend(drawing: &mut Drawing, top: f64, entries: &[(Sign, String)]) -> f64 {
-    let (mut x, mut y) = (LEFT, top + ROW / 2.0);
-    for (sign, words) in entries {
-        let width = sign.width() + GAP + CHARACTER * words.chars().count() as f64;
-        if x > LEFT && x + width > RIGHT {
-            (x, y) = (LEFT, y + ROW);
-        }
+    drawing.open_group("signs");
+    for (index, (sign, words)) in entries.iter().enumerate() {
+        let (row, column) = (index / COLUMNS, index % COLUMNS);
+        let x = LEFT + column as f64 * (RIGHT - LEFT) / COLUMNS as f64;
+        let y = top + (row as f64 + 0.5) * ROW;
         sign.sample(drawing, (x, y));
-        drawing.text("legend", (x + sign.width() + GAP, y + 4.0), words);
-        x += width + BETWEEN;
+        drawing.text("legend", (x + TEXT, y + 4.0), words);
     }
-    y + ROW / 2.0
+    drawing.close_group();
+    top + entries.len().div_ceil(COLUMNS) as f64 * ROW
 }

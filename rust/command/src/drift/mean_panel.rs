@@ -3,8 +3,9 @@
 use std::mem;
 
 use super::legend::Sign;
+use super::length::Length;
 use super::panel::{Panel, RIGHT};
-use super::record::{Length, Stand};
+use super::record::Stand;
 use super::series::{Part, Series, BY_DEVIATION, BY_MEAN, IN_FULL};
 use super::svg::{Drawing, Place};
 
@@ -179,7 +180,7 @@ fn name_limits(drawing: &mut Drawing, [upper, lower]: [f64; 2]) {
 }
 
 /// The sign of a part's correction.
-pub fn correction_sign(part: &Part) -> Option<Sign> {
+fn correction_sign(part: &Part) -> Option<Sign> {
     match part.answer.branch {
         BY_DEVIATION => Some(Sign::ByDeviation),
         BY_MEAN if part.answer.correction > 0 => Some(Sign::UpByMean),
@@ -187,6 +188,43 @@ pub fn correction_sign(part: &Part) -> Option<Sign> {
         IN_FULL => Some(Sign::InFull),
         _ => None,
     }
+}
+
+/// What stands in the diagram of the deviations.
+pub fn mean_signs(series: &Series) -> Vec<(Sign, &'static str)> {
+    let first = |branch: u32| {
+        series
+            .parts
+            .iter()
+            .find(|part| part.answer.branch == branch)
+            .and_then(correction_sign)
+    };
+    let mean = series.mean != 0;
+    let limit = match mean {
+        true => "± TZL, a mean beyond it corrects",
+        false => "± TZL, a deviation beyond it corrects",
+    };
+    let signs = [
+        (Some(Sign::Part), "deviation of a part"),
+        (mean.then_some(Sign::Stored), "stored mean"),
+        (mean.then_some(Sign::Exact), "exact mean N/P"),
+        (mean.then_some(Sign::Band), "exact mean ± K/2"),
+        (Some(Sign::Tzl), limit),
+        (
+            first(BY_DEVIATION),
+            "correction by the deviation (branch 2)",
+        ),
+        (first(BY_MEAN), "correction by the mean (branch 4)"),
+        (first(IN_FULL), "correction in full (branch 5)"),
+        (
+            series.refused.first().map(|_| Sign::Refused),
+            "refused measurement",
+        ),
+    ];
+    signs
+        .into_iter()
+        .filter_map(|(sign, words)| Some((sign?, words)))
+        .collect()
 }
 
 /// Marks the corrections at their size, and the refused measurements at the lower edge.

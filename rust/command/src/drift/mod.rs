@@ -1,6 +1,7 @@
 //! `drift`: the series of a job as a picture or as numbers.
 
 mod legend;
+mod length;
 mod mean_panel;
 mod panel;
 mod picture;
@@ -10,6 +11,7 @@ mod sheet;
 mod svg;
 mod table;
 mod wear_panel;
+mod weighting;
 mod words;
 
 use std::collections::BTreeMap;
@@ -149,12 +151,13 @@ fn drawn(given: &Given, output: Option<String>, chosen: &[&Series]) -> Result<u8
     match output {
         None => print(text.as_bytes())?,
         Some(file) => {
-            Replacement::prepare(&file, text.as_bytes())?.commit()?;
+            let replacement = Replacement::prepare(&file, text.as_bytes())?;
             let said = match given.has(PLAIN) {
                 true => numbers(0, chosen),
                 false => words::written(&file, chosen),
             };
             print(said.as_bytes())?;
+            replacement.commit()?;
         }
     }
     Ok(looked_at(chosen))

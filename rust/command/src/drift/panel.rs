@@ -2,7 +2,7 @@
 
 use std::ops::Range;
 
-use super::record::{round_step, Length};
+use super::length::{round_step, Length};
 use super::svg::{Drawing, Place};
 
 /// The picture's width, and what is left free beside the diagrams.

@@ -2,48 +2,25 @@
 
 use std::mem;
 
-use super::legend::{legend, Sign, CHARACTER};
-use super::mean_panel::{correction_sign, draw_deviations, draw_limits, draw_marks, Course};
+use super::legend::{legend, Sign};
+use super::length::Length;
+use super::mean_panel::{draw_deviations, draw_limits, draw_marks, mean_signs, Course};
 use super::panel::{part_ticks, x, Panel, LEFT, RIGHT};
-use super::record::Length;
-use super::series::{Part, Series, BY_DEVIATION, BY_MEAN, IN_FULL};
+use super::series::Series;
 use super::svg::Drawing;
 use super::wear_panel::{Setting, Wear};
+use super::weighting::Weightings;
 use super::words::{subtitle, title, verdict};
 
-/// Heights: of the diagrams, of the strip with k, and of what stands around them.
+/// Heights: of the diagrams, and of what stands around them.
 const MEANS: f64 = 290.0;
 const DISTANCES: f64 = 100.0;
 const WEARS: f64 = 150.0;
-const WEIGHTS: f64 = 21.0;
 const TITLE: f64 = 34.0;
 const GAP: f64 = 8.0;
-/// Above a diagram of a wear that is set, and the width of a label in the strip.
+/// Above a diagram of a wear that is set, and about the width of a character there.
 const ROOM: f64 = 12.0;
-const K_LABEL: f64 = 46.0;
-
-/// Parts that follow each other with the same weighting factor.
-struct Weighting {
-    first: usize,
-    last: usize,
-    k: i64,
-}
-
-fn weightings(parts: &[Part]) -> Vec<Weighting> {
-    let mut spans: Vec<Weighting> = Vec::new();
-    for (index, part) in parts.iter().enumerate() {
-        let (k, number) = (part.measurement.k, index + 1);
-        match spans.last_mut() {
-            Some(span) if span.k == k => span.last = number,
-            _ => spans.push(Weighting {
-                first: number,
-                last: number,
-                k,
-            }),
-        }
-    }
-    spans
-}
+const CHARACTER: f64 = 6.5;
 
 /// What a diagram is called and shows, before its values are drawn.
 struct Plan {
@@ -61,7 +38,7 @@ struct Plan {
 pub struct Sheet<'a> {
     series: &'a Series,
     drawing: &'a mut Drawing,
-    weightings: Vec<Weighting>,
+    weightings: Weightings,
     wears: Vec<Wear>,
     /// How far down it is drawn.
     y: f64,
@@ -70,7 +47,7 @@ pub struct Sheet<'a> {
 impl<'a> Sheet<'a> {
     /// A sheet that begins at this height.
     pub fn new(series: &'a Series, drawing: &'a mut Drawing, y: f64) -> Self {
-        let (weightings, wears) = (weightings(&series.parts), Wear::of(series));
+        let (weightings, wears) = (Weightings::of(&series.parts), Wear::of(series));
         Sheet {
             series,
             drawing,
@@ -92,7 +69,7 @@ impl<'a> Sheet<'a> {
         for wear in mem::take(&mut self.wears) {
             self.wear(&wear);
         }
-        self.strip();
+        self.y = self.weightings.draw(self.drawing, self.y + GAP);
         self.scale();
         self.drawing.close_group();
         self.y
@@ -121,7 +98,7 @@ impl<'a> Sheet<'a> {
         let top = legend(self.drawing, self.y + TITLE + GAP, &plan.legend) + GAP + plan.room;
         let panel = Panel::new(top..top + plan.height, self.series.parts.len(), values);
         panel.frame(self.drawing, plan.label);
-        for edge in self.k_changes() {
+        for edge in self.weightings.changes() {
             panel.upright(self.drawing, Sign::KChange.class(), edge);
         }
         for setting in &plan.settings {
@@ -131,13 +108,23 @@ impl<'a> Sheet<'a> {
         panel
     }
 
-    /// The edges between parts at which k changes.
-    fn k_changes(&self) -> Vec<usize> {
-        self.weightings
-            .iter()
-            .skip(1)
-            .map(|span| span.first - 1)
-            .collect()
+    /// The legend of the first diagram: what stands in it, and how many values are outside.
+    fn mean_legend(&self) -> Vec<(Sign, String)> {
+        let mut entries = mean_signs(self.series);
+        if self.weightings.changes().next().is_some() {
+            entries.push((Sign::KChange, "weighting factor k changed"));
+        }
+        if !self.settings().is_empty() {
+            entries.push((Sign::WearSet, "wear set, as for a new tool"));
+        }
+        let outside = match self.series.outside() {
+            0 => "outside its bound: none".to_owned(),
+            outside => format!("outside its bound: {outside}"),
+        };
+        let named = entries
+            .into_iter()
+            .map(|(sign, words)| (sign, words.to_owned()));
+        named.chain([(Sign::Outside, outside)]).collect()
     }
 
     /// The settings of every wear that is drawn.
@@ -178,66 +165,6 @@ impl<'a> Sheet<'a> {
         self.drawing.close_group();
     }
 
-    /// The signs that stand in the first diagram, and how many values are outside.
-    fn mean_legend(&self) -> Vec<(Sign, String)> {
-        let mut entries = vec![(Sign::Part, "deviation of a part")];
-        if self.series.mean != 0 {
-            entries.extend([
-                (Sign::Stored, "stored mean"),
-                (Sign::Exact, "exact mean N/P"),
-                (Sign::Band, "exact mean ± K/2"),
-            ]);
-        }
-        entries.push(match self.series.mean {
-            0 => (Sign::Tzl, "± TZL: a deviation beyond it corrects"),
-            _ => (Sign::Tzl, "± TZL: a mean beyond it corrects"),
-        });
-        entries.extend(self.correction_entries());
-        if !self.series.refused.is_empty() {
-            entries.push((Sign::Refused, "refused measurement"));
-        }
-        if !self.k_changes().is_empty() {
-            entries.push((Sign::KChange, "k changed"));
-        }
-        if !self.settings().is_empty() {
-            entries.push((Sign::WearSet, "wear set, as at a tool change (W line)"));
-        }
-        let outside = match self.series.outside() {
-            0 => "outside its bound: none".to_owned(),
-            outside => format!("outside its bound: {outside}"),
-        };
-        let named = entries
-            .into_iter()
-            .map(|(sign, words)| (sign, words.to_owned()));
-        named.chain([(Sign::Outside, outside)]).collect()
-    }
-
-    /// The first sign of each branch that corrects.
-    fn correction_entries(&self) -> Vec<(Sign, &'static str)> {
-        let first = |branch: u32| {
-            self.series
-                .parts
-                .iter()
-                .find(|part| part.answer.branch == branch)
-                .and_then(correction_sign)
-        };
-        let entries = [
-            (
-                first(BY_DEVIATION),
-                "correction by the deviation (branch 2)",
-            ),
-            (first(BY_MEAN), "correction by the mean (branch 4)"),
-            (
-                first(IN_FULL),
-                "correction by a deviation beyond TMV (branch 5)",
-            ),
-        ];
-        entries
-            .into_iter()
-            .filter_map(|(sign, words)| Some((sign?, words)))
-            .collect()
-    }
-
     fn distances(&mut self, course: &Course) {
         let plan = Plan {
             class: "distances",
@@ -247,7 +174,7 @@ impl<'a> Sheet<'a> {
                 (Sign::Stored, "stored less exact mean".to_owned()),
                 (
                     Sign::Band,
-                    "bound ± K/2 units of 0.1 µm; K is the greatest k since the mean last began"
+                    "bound ± K/2, in units of 0.1 µm; K is the greatest k since the mean last began"
                         .to_owned(),
                 ),
             ],
@@ -269,11 +196,7 @@ impl<'a> Sheet<'a> {
             legend: vec![
                 (Sign::Stored, "stored wear".to_owned()),
                 (Sign::Exact, "exact wear".to_owned()),
-                (
-                    Sign::Band,
-                    "exact wear ± its bound, which grows with each correction by the mean"
-                        .to_owned(),
-                ),
+                (Sign::Band, "exact wear ± its bound".to_owned()),
             ],
             room: if settings.is_empty() { 0.0 } else { ROOM },
             settings: settings.clone(),
@@ -300,29 +223,6 @@ impl<'a> Sheet<'a> {
                 free = middle + half;
             }
         }
-    }
-
-    /// The strip of the weighting factors.
-    fn strip(&mut self) {
-        let (top, parts) = (self.y + GAP, self.series.parts.len());
-        for span in &self.weightings {
-            let (left, right) = (
-                x(span.first as f64 - 0.5, parts),
-                x(span.last as f64 + 0.5, parts),
-            );
-            self.drawing
-                .rectangle("k-span", (left, top), (right - left, WEIGHTS));
-            if right - left > K_LABEL {
-                self.drawing.text(
-                    "middle",
-                    ((left + right) / 2.0, top + 15.0),
-                    &format!("k = {}", span.k),
-                );
-            }
-        }
-        self.drawing
-            .text("tick left", (LEFT - 7.0, top + 15.0), "factor k");
-        self.y = top + WEIGHTS;
     }
 
     /// The numbers of the parts.

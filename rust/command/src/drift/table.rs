@@ -1,6 +1,7 @@
 //! The series as numbers: comma-separated values with a header row.
 
-use super::record::{Length, Record};
+use super::length::Length;
+use super::record::Record;
 use super::series::{Part, Refused, Series};
 
 /// All lengths are in micrometres. A refused measurement has the first three columns only; one that names no mean has none of the mean's.

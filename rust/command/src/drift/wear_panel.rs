@@ -1,8 +1,9 @@
 //! The diagram of a tool's wear, stored and exact.
 
 use super::legend::Sign;
+use super::length::Length;
 use super::panel::Panel;
-use super::record::{Length, Stand};
+use super::record::Stand;
 use super::series::{Part, Series};
 use super::svg::{Drawing, Place};
 

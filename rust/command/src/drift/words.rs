@@ -1,6 +1,6 @@
 //! What the picture and the command say of a series.
 
-use super::record::millimetres;
+use super::length::millimetres;
 use super::series::{Part, Series};
 use crate::words::kind;
 
