@@ -16,6 +16,7 @@ present() { # command ..
         cc) how="install a C compiler, as gcc or clang" ;;
         g++) how="install a C++ compiler, as g++" ;;
         nm) how="install binutils" ;;
+        python3) how="install Python 3" ;;
         esac
         echo "$name is missing: $how" >&2
         return 1
@@ -25,7 +26,7 @@ present() { # command ..
 # One line of progress: the same line again on a terminal, else a line of its own.
 progress() { # text
     if [ -t 2 ]; then
-        printf '\r\033[K%s' "$1" >&2
+        printf '\r\033[K%s' "${1:0:79}" >&2
     elif [ -n "$1" ]; then
         echo "$1" >&2
     fi
@@ -34,7 +35,7 @@ progress() { # text
 # Runs a step of a build. Its output goes to the log, and its end to standard error if it fails.
 step() { # command ..
     local log=$root/target/build.log
-    (cd "$root" && "$@") >"$log" 2>&1 && return
+    (cd "$root" && "$@") </dev/null >"$log" 2>&1 && return
     progress ""
     tail -n 20 "$log" >&2
     echo "the build failed; $log has all of it" >&2
@@ -82,24 +83,22 @@ prove() { # crate, command ..
     progress ""
 }
 
-# Whether a product is missing or older than one of its sources.
+# Whether a product is missing, or one of its sources is newer than the beginning of its last build.
 stale() { # product, source ..
     local product=$1
     shift
-    [ ! -f "$product" ] || [ -n "$(find "$@" -name target -prune -o -type f -newer "$product" -print -quit)" ]
+    [ ! -f "$product" ] || [ ! -f "$product.built" ] || [ -n "$(find "$@" -name target -prune -o -type f -newer "$product.built" -print -quit)" ]
 }
 
-# Makes a product by a command where it is stale. It then counts as old as the build's beginning: what changed meanwhile is newer.
+# Makes a product by a command where it is stale.
 make_product() { # product, sources as words, command ..
-    local product=$1 sources=$2 began status=0
+    local product=$1 sources=$2
     shift 2
     # shellcheck disable=SC2086
     (cd "$root" && stale "$product" $sources) || return 0
-    mkdir -p "$root/target"
-    began=$(mktemp)
-    "$@" && touch -r "$began" "$product" || status=1
-    rm -f "$began"
-    return "$status"
+    mkdir -p "$root/target" "$(dirname "$product")"
+    touch "$product.begun"
+    "$@" && mv "$product.begun" "$product.built"
 }
 
 prove_program() { present rt && prove measure rt check measure; }

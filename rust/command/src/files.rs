@@ -46,9 +46,23 @@ pub fn read_if_there(path: &str, limit: u64) -> Result<Option<Vec<u8>>, Failure>
     }
 }
 
+/// The place of a file, which need not be there: links are followed.
+fn place(path: &str) -> Option<PathBuf> {
+    let given = Path::new(path);
+    let folder = given.parent().filter(|folder| *folder != Path::new(""));
+    let absent = || {
+        Some(
+            fs::canonicalize(folder.unwrap_or(Path::new(".")))
+                .ok()?
+                .join(given.file_name()?),
+        )
+    };
+    fs::canonicalize(given).ok().or_else(absent)
+}
+
 /// Whether two names are of one file.
 pub fn same(a: &str, b: &str) -> bool {
-    a == b || matches!((fs::canonicalize(a), fs::canonicalize(b)), (Ok(a), Ok(b)) if a == b)
+    place(a).is_some_and(|a| Some(a) == place(b))
 }
 
 /// The new content of a file, written beside it and not yet in its place. It is removed where it never gets there.
@@ -61,7 +75,7 @@ impl Replacement {
     /// Writes the content beside the file. All that is likely to fail, as a full disk, fails here.
     pub fn prepare(path: &str, content: &[u8]) -> Result<Replacement, Failure> {
         // a link stays, and the file that it leads to is replaced
-        let target = fs::canonicalize(path).unwrap_or_else(|_| PathBuf::from(path));
+        let target = place(path).unwrap_or_else(|| PathBuf::from(path));
         let beside = beside(&target);
         let replacement = Replacement { target, beside };
         replacement

@@ -8,6 +8,21 @@ pub struct Option_ {
     pub value: Option<&'static str>,
 }
 
+impl Option_ {
+    /// An option that stands alone.
+    pub const fn alone(name: &'static str) -> Option_ {
+        Option_ { name, value: None }
+    }
+
+    /// An option with the name of a file behind it.
+    pub const fn file(name: &'static str) -> Option_ {
+        Option_ {
+            name,
+            value: Some("the name of a file"),
+        }
+    }
+}
+
 /// What was given to a command.
 #[derive(Debug)]
 pub struct Given<'a> {
@@ -91,16 +106,7 @@ mod tests {
     use super::*;
     use crate::status::USAGE;
 
-    const TABLE: [Option_; 2] = [
-        Option_ {
-            name: "--flag",
-            value: None,
-        },
-        Option_ {
-            name: "--to",
-            value: Some("a file"),
-        },
-    ];
+    const TABLE: [Option_; 2] = [Option_::alone("--flag"), Option_::file("--to")];
 
     fn words(text: &str) -> Vec<String> {
         text.split(' ').map(String::from).collect()
@@ -126,8 +132,8 @@ mod tests {
         for (text, word) in [
             ("a b", "one job file"),
             ("--to x", "job file is missing"),
-            ("job --to", "a file behind --to is missing"),
-            ("job --to ", "a file behind --to is empty"),
+            ("job --to", "the name of a file behind --to is missing"),
+            ("job --to ", "the name of a file behind --to is empty"),
             ("", "job file is empty"),
             ("job --flag --flag", "--flag is given twice"),
             ("job --flags", "no option --flags"),

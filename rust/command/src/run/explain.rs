@@ -52,24 +52,24 @@ fn refused(number: u32) -> Vec<String> {
 
 fn measured(branch: Branch, answer: &Answer) -> Vec<String> {
     let micrometres = |number| Unit::U.micrometres(number);
-    let verdict = Verdict::ALL
-        .into_iter()
-        .find(|verdict| verdict.number() == answer.verdict);
-    // a zero offset has no tolerance and corrects no tool
-    let (stands, correction) = match branch {
-        Branch::ZeroOffset => (String::new(), String::new()),
-        _ => (
-            verdict.map_or(String::new(), |verdict| {
-                format!(", verdict {}: {}", answer.verdict, words::verdict(verdict))
-            }),
-            format!(", correction {}", micrometres(answer.correction)),
-        ),
-    };
+    let mut figures = format!("deviation {}", micrometres(answer.deviation));
+    // a zero offset corrects no tool and has no tolerance
+    if branch != Branch::ZeroOffset {
+        figures.push_str(&format!(
+            ", correction {}, {}",
+            micrometres(answer.correction),
+            stands(answer.verdict)
+        ));
+    }
     vec![
-        format!(
-            "deviation {}{correction}{stands}",
-            micrometres(answer.deviation)
-        ),
+        figures,
         format!("branch {}: {}", answer.branch, words::branch(branch)),
     ]
+}
+
+fn stands(number: u32) -> String {
+    let verdict = Verdict::ALL
+        .into_iter()
+        .find(|verdict| verdict.number() == number);
+    format!("verdict {number}: {}", verdict.map_or("", words::verdict))
 }

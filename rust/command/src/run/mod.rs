@@ -5,14 +5,14 @@ mod state;
 
 use mezhtolik::{job_room, Package, Refusal, BLOCK};
 
-use crate::answers;
+use crate::answers::{self, Answer};
 use crate::failure::{ended, print, say, Failure};
 use crate::files::{self, Replacement};
 use crate::options::{self, Given, Option_};
 use crate::records;
 use crate::status;
 
-pub const HELP: &str = include_str!("help.txt");
+const HELP: &str = include_str!("help.txt");
 
 const EXPLAIN: &str = "--explain";
 const RECORDS: &str = "--records";
@@ -22,30 +22,12 @@ const SAVE: &str = "--save";
 const STATE: &str = "--state";
 
 const OPTIONS: [Option_; 6] = [
-    Option_ {
-        name: EXPLAIN,
-        value: None,
-    },
-    Option_ {
-        name: RECORDS,
-        value: None,
-    },
-    Option_ {
-        name: PLAIN,
-        value: None,
-    },
-    Option_ {
-        name: MEMORY,
-        value: Some("the name of a file"),
-    },
-    Option_ {
-        name: SAVE,
-        value: Some("the name of a file"),
-    },
-    Option_ {
-        name: STATE,
-        value: Some("the name of a file"),
-    },
+    Option_::alone(EXPLAIN),
+    Option_::alone(RECORDS),
+    Option_::alone(PLAIN),
+    Option_::file(MEMORY),
+    Option_::file(SAVE),
+    Option_::file(STATE),
 ];
 
 /// One byte more than the block has.
@@ -67,12 +49,33 @@ fn run(given: &Given) -> Result<u8, Failure> {
     let mut package = package_before(given)?;
     let mut output = vec![0; job_room(&job)];
     match package.run_job(&job, &mut output) {
-        Ok(length) => done(given, &package, &job, &output[..length]),
+        Ok(length) => done(given, &Ran::of(&job, &output[..length], &package)),
         Err(refusal) => refused(given, refusal),
     }
 }
 
-/// Options that do not go together, and names that would destroy a file of this run.
+/// A job that ran: its text, what the package wrote, and the package after it.
+struct Ran<'a> {
+    job: &'a [u8],
+    output: &'a str,
+    answers: Vec<Answer>,
+    package: &'a Package,
+}
+
+impl<'a> Ran<'a> {
+    fn of(job: &'a [u8], output: &'a [u8], package: &'a Package) -> Ran<'a> {
+        let output = std::str::from_utf8(output).expect("answers are digits and commas");
+        let answers = answers::read(output);
+        Ran {
+            job,
+            output,
+            answers,
+            package,
+        }
+    }
+}
+
+/// Options that do not go together, and names by which this run would write over a file of its own.
 fn fits(given: &Given) -> Result<(), Failure> {
     let texts = [EXPLAIN, RECORDS].into_iter().find(|name| given.has(name));
     if let Some(text) = texts.filter(|_| given.has(PLAIN)) {
@@ -80,21 +83,16 @@ fn fits(given: &Given) -> Result<(), Failure> {
             "{PLAIN} is one line of numbers and goes without {text}"
         )));
     }
-    let named = |name| given.value(name).map(|file| (name, file));
-    let written: Vec<_> = [SAVE, STATE].into_iter().filter_map(named).collect();
-    let twice = |&(name, file): &(&str, &str)| {
-        let others = written
-            .iter()
-            .filter(|other| other.0 != name)
-            .map(|other| other.1);
-        others
-            .chain([given.file])
-            .any(|other| files::same(file, other))
-    };
-    match written.iter().find(|named| twice(named)) {
-        Some((name, file)) => Err(Failure::usage(format!(
-            "{name} {file} would overwrite another file of this run"
-        ))),
+    let (job, save, state) = (Some(given.file), given.value(SAVE), given.value(STATE));
+    let one_file =
+        |a: Option<&str>, b: Option<&str>| a.zip(b).is_some_and(|(a, b)| files::same(a, b));
+    let pairs = [
+        (save, job, "--save names the job"),
+        (state, job, "--state names the job"),
+        (save, state, "--save and --state name one file"),
+    ];
+    match pairs.into_iter().find(|&(a, b, _)| one_file(a, b)) {
+        Some((_, _, why)) => Err(Failure::usage(why)),
         None => Ok(()),
     }
 }
@@ -110,23 +108,12 @@ fn package_before(given: &Given) -> Result<Package, Failure> {
         let wrong = |_| {
             Failure::file(
                 file,
-                format!(
-                    "a memory block has {BLOCK} bytes, and this file has {}",
-                    counted(block.len())
-                ),
+                format!("a memory block has {BLOCK} bytes, and this file has not"),
             )
         };
         package.load(&block).map_err(wrong)?;
     }
     Ok(package)
-}
-
-fn counted(bytes: usize) -> String {
-    if bytes > BLOCK {
-        "more".into()
-    } else {
-        bytes.to_string()
-    }
 }
 
 fn package_of(file: &str) -> Result<Package, Failure> {
@@ -141,26 +128,32 @@ fn package_of(file: &str) -> Result<Package, Failure> {
     }
 }
 
-/// A job that ran. Files are prepared before anything is printed and put in place after it: where one cannot be written, nothing is printed, and
-/// where the answers cannot be printed, no file is changed.
-fn done(given: &Given, package: &Package, job: &[u8], output: &[u8]) -> Result<u8, Failure> {
-    let output = std::str::from_utf8(output).expect("answers are digits and commas");
-    let replacements = replacements(given, package)?;
-    let answers = answers::read(output);
-    let mut text = match () {
-        () if given.has(PLAIN) => format!("0,{}\n", output.len()),
-        () if given.has(EXPLAIN) => explain::explained(job, output, &answers),
-        () => output.to_string(),
-    };
-    if given.has(RECORDS) {
-        text.push_str(&format!("\n{}", records::listed(package)));
-    }
-    print(text.as_bytes())?;
+/// Files are prepared before anything is printed and put in place after it: where one cannot be written, nothing is printed, and where the answers
+/// cannot be printed, no file is changed.
+fn done(given: &Given, ran: &Ran) -> Result<u8, Failure> {
+    let replacements = replacements(given, ran.package)?;
+    print(told(given, ran).as_bytes())?;
     replacements.into_iter().try_for_each(Replacement::commit)?;
-    Ok(counted_refusals(given.file, &answers))
+    Ok(counted(given.file, &ran.answers))
 }
 
-fn counted_refusals(file: &str, answers: &[answers::Answer]) -> u8 {
+/// What is printed of a job that ran.
+fn told(given: &Given, ran: &Ran) -> String {
+    if given.has(PLAIN) {
+        return format!("0,{}\n", ran.output.len());
+    }
+    let mut text = match given.has(EXPLAIN) {
+        true => explain::explained(ran.job, ran.output, &ran.answers),
+        false => ran.output.to_string(),
+    };
+    if given.has(RECORDS) {
+        text.push_str(&format!("\n{}", records::listed(ran.package)));
+    }
+    text
+}
+
+/// The exit status by the answers; refused lines are counted on standard error.
+fn counted(file: &str, answers: &[Answer]) -> u8 {
     match answers::refused(answers) {
         0 => status::DONE,
         refused => {
