@@ -233,6 +233,8 @@ def check_points(group, x, y, parts):
     for index, (point, part) in enumerate(zip(points, parts), 1):
         place = (x.place(index), y.place(part.deviation * UNIT))
         must(close((number(point, "cx"), number(point, "cy")), place), f"the point of part {index} is not at its deviation")
+        words = f"part {index}, line {part.line}: deviation {float(part.deviation * UNIT):g} µm"
+        must(point.find(SVG + "title").text == words, f"the point of part {index} does not say '{words}'")
 
 
 def check_band(group, x, y, parts):
@@ -265,6 +267,18 @@ def check_corrections(group, x, y, parts):
         for sign, (index, part) in zip(signs, corrected):
             middle = [(min(place[axis] for place in sign) + max(place[axis] for place in sign)) / 2 for axis in (0, 1)]
             must(close(middle, (x.place(index), y.place(part.correction * UNIT))), f"part {index}: its correction is drawn elsewhere")
+
+
+def check_refused(group, x, parts, refused):
+    """A refused measurement stands between the parts before and behind it."""
+    signs = with_class(group, "path", "refused")
+    must(len(signs) == len(refused), f"{len(signs)} refused measurements, not {len(refused)}")
+    for sign, (line, refusal) in zip(signs, refused):
+        places = [place for run in path(sign) for place in run]
+        middle = sum(place[0] for place in places) / len(places)
+        before = sum(part.line < line for part in parts)
+        must(abs(middle - x.place(before + Fraction(1, 2))) < PIXEL, f"line {line}: the refused measurement is marked elsewhere")
+        must(sign.find(SVG + "title").text == f"line {line}: refused by {refusal}", f"line {line}: its mark says something else")
 
 
 def check_distances(group, x, parts):
@@ -330,7 +344,7 @@ def check_series(series, mv, parts, refused):
     check_points(means, x, y, parts)
     check_limits(means, x, y, parts)
     check_corrections(means, x, y, parts)
-    must(len(with_class(means, "path", "refused")) == len(refused), "not every refused measurement is marked")
+    check_refused(means, x, parts, refused)
     must(len(distances) == (mv != 0), f"{len(distances)} diagrams of distances")
     if mv:
         check_band(means, x, y, parts)

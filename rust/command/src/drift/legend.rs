@@ -39,6 +39,7 @@ const ARM: f64 = 4.0;
 const UPWARDS: [Place; 3] = [(-HALF, HALF), (0.0, -HALF), (HALF, HALF)];
 const DOWNWARDS: [Place; 3] = [(-HALF, -HALF), (HALF, -HALF), (0.0, HALF)];
 const DIAMOND: [Place; 4] = [(-HALF, 0.0), (0.0, -HALF), (HALF, 0.0), (0.0, HALF)];
+const CROSS: [[Place; 2]; 2] = [[(-ARM, -ARM), (ARM, ARM)], [(-ARM, ARM), (ARM, -ARM)]];
 const SQUARE: [Place; 4] = [(-4.5, -4.5), (4.5, -4.5), (4.5, 4.5), (-4.5, 4.5)];
 
 /// A legend: its columns and rows, what a sample of a line takes, and where the text begins behind the sample's left edge.
@@ -81,23 +82,14 @@ impl Sign {
     }
 
     /// Marks a place, with the words that a viewer shows when it is pointed at.
-    pub fn mark(self, drawing: &mut Drawing, place: Place, words: &str) {
-        let around = |corners: &[Place]| {
-            corners
-                .iter()
-                .map(|corner| (place.0 + corner.0, place.1 + corner.1))
-                .collect()
-        };
+    pub fn mark(self, drawing: &mut Drawing, (x, y): Place, words: &str) {
+        let class = self.class();
+        let at = |corner: &Place| (x + corner.0, y + corner.1);
+        let around = |corners: &[Place]| corners.iter().map(at).collect::<Vec<_>>();
         match self.shape() {
-            Shape::Point { radius } => drawing.point(self.class(), place, radius, words),
-            Shape::Polygon(corners) => drawing.polygon(self.class(), around(corners), words),
-            Shape::Cross => drawing.runs(
-                self.class(),
-                &[
-                    around(&[(-ARM, -ARM), (ARM, ARM)]),
-                    around(&[(-ARM, ARM), (ARM, -ARM)]),
-                ],
-            ),
+            Shape::Point { radius } => drawing.point(class, (x, y), radius, words),
+            Shape::Polygon(corners) => drawing.named_polygon(class, &around(corners), words),
+            Shape::Cross => drawing.named_runs(class, &CROSS.map(|arm| around(&arm)), words),
             Shape::Line | Shape::Area | Shape::Upright => {}
         }
     }

@@ -64,27 +64,31 @@ impl Drawing {
         self.add(format_args!("<rect class=\"{class}\" x=\"{x:.2}\" y=\"{y:.2}\" width=\"{width:.2}\" height=\"{height:.2}\"/>"));
     }
 
-    /// A filled shape with such words.
-    pub fn polygon(&mut self, class: &str, corners: Vec<Place>, words: &str) {
-        let (path, words) = (steps(&corners), escaped(words));
-        self.add(format_args!(
-            "<path class=\"{class}\" d=\"{path}Z\"><title>{words}</title></path>"
-        ));
-    }
-
-    /// A point with the words that a viewer shows when it is pointed at.
+    /// A point, with the words that a viewer shows when it is pointed at.
     pub fn point(&mut self, class: &str, (x, y): Place, radius: f64, words: &str) {
-        let words = escaped(words);
-        self.add(format_args!("<circle class=\"{class}\" cx=\"{x:.2}\" cy=\"{y:.2}\" r=\"{radius:.2}\"><title>{words}</title></circle>"));
+        let shape =
+            format!("circle class=\"{class}\" cx=\"{x:.2}\" cy=\"{y:.2}\" r=\"{radius:.2}\"");
+        self.add(titled("circle", &shape, words));
     }
 
-    /// Lines through the places of each run; runs are not joined.
-    pub fn runs(&mut self, class: &str, runs: &[Vec<Place>]) {
-        let path: Vec<String> = runs.iter().map(|run| steps(run)).collect();
-        self.add(format_args!(
-            "<path class=\"{class}\" d=\"{}\"/>",
-            path.concat()
+    /// Lines through the places of each run, with such words; runs are not joined.
+    pub fn named_runs(&mut self, class: &str, runs: &[Vec<Place>], words: &str) {
+        let runs: String = runs.iter().map(|run| steps(run)).collect();
+        self.add(titled(
+            "path",
+            &format!("path class=\"{class}\" d=\"{runs}\""),
+            words,
         ));
+    }
+
+    /// A shape with these corners, with such words.
+    pub fn named_polygon(&mut self, class: &str, corners: &[Place], words: &str) {
+        let shape = format!("path class=\"{class}\" d=\"{}Z\"", steps(corners));
+        self.add(titled("path", &shape, words));
+    }
+
+    pub fn runs(&mut self, class: &str, runs: &[Vec<Place>]) {
+        self.named_runs(class, runs, "");
     }
 
     /// The areas between the upper and the lower edge of each run.
@@ -93,11 +97,16 @@ impl Drawing {
             let around: Vec<Place> = upper.iter().chain(lower.iter().rev()).copied().collect();
             steps(&around) + "Z"
         };
-        let path: Vec<String> = edges.iter().map(outline).collect();
-        self.add(format_args!(
-            "<path class=\"{class}\" d=\"{}\"/>",
-            path.concat()
-        ));
+        let outlines: String = edges.iter().map(outline).collect();
+        self.add(format_args!("<path class=\"{class}\" d=\"{outlines}\"/>"));
+    }
+}
+
+/// An element with a title, or without one where there are no words.
+fn titled(name: &str, element: &str, words: &str) -> String {
+    match words {
+        "" => format!("<{element}/>"),
+        words => format!("<{element}><title>{}</title></{name}>", escaped(words)),
     }
 }
 
