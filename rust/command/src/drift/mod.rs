@@ -15,10 +15,10 @@ mod weighting;
 mod words;
 
 use std::collections::BTreeMap;
-use std::ops::RangeInclusive;
 use std::path::Path;
 
 use mezhtolik::Refusal;
+use reference::ranges::MEANS;
 
 use crate::failure::{ended, print, say, Failure};
 use crate::files::{self, Replacement};
@@ -38,26 +38,13 @@ const OPTIONS: [Option_; 4] = [
         name: MEAN,
         value: Some("the number of a mean value"),
     },
-    Option_ {
-        name: OUTPUT,
-        value: Some("the name of a file"),
-    },
-    Option_ {
-        name: CSV,
-        value: None,
-    },
-    Option_ {
-        name: PLAIN,
-        value: None,
-    },
+    Option_::file(OUTPUT),
+    Option_::alone(CSV),
+    Option_::alone(PLAIN),
 ];
 
 /// The status where a value lies outside its bound.
 const OUTSIDE: u8 = 6;
-/// One byte more than a job may have, so that the package sees a longer one.
-const JOB_READ: u64 = 65_536 + 1;
-/// The numbers of the means, and 0 for none.
-const MEANS: RangeInclusive<i64> = 0..=20;
 
 /// The exit status of `drift` with these arguments.
 pub fn command(arguments: &[String]) -> u8 {
@@ -69,7 +56,7 @@ pub fn command(arguments: &[String]) -> u8 {
 
 fn drift(given: &Given) -> Result<u8, Failure> {
     let (wanted, output) = (wanted_mean(given)?, output_file(given)?);
-    let job = files::read(given.file, JOB_READ)?;
+    let job = files::job(given.file)?;
     match series::of_job(&job) {
         Err(refusal) => refused(given, refusal),
         Ok(all) => {
@@ -84,8 +71,9 @@ fn wanted_mean(given: &Given) -> Result<Option<i64>, Failure> {
     let Some(text) = given.value(MEAN) else {
         return Ok(None);
     };
-    let number = text.parse().ok().filter(|number| MEANS.contains(number));
-    let known = "mean values have the numbers 1..20; 0 is for the parts measured without one";
+    let numbers = 0..=MEANS as i64;
+    let number = text.parse().ok().filter(|number| numbers.contains(number));
+    let known = format!("the numbers are 1..{MEANS}, and 0 for the parts measured without one");
     number
         .map(Some)
         .ok_or_else(|| Failure::usage(format!("{MEAN} {text}: {known}")))
@@ -136,7 +124,7 @@ fn chosen(all: &BTreeMap<i64, Series>, wanted: Option<i64>) -> Result<Vec<&Serie
             };
             all.get(&mean).map(|series| vec![series]).ok_or_else(why)
         }
-        None if named.is_empty() && all.is_empty() => Err(words::NO_PARTS.to_owned()),
+        None if all.is_empty() => Err(words::NO_PARTS.to_owned()),
         None if named.is_empty() => Err(words::NO_MEANS.to_owned()),
         None => Ok(named.iter().map(|mean| &all[mean]).collect()),
     }
