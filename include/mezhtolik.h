@@ -9,15 +9,16 @@
  *   h  0.05 um: tool wears and zero offsets
  *
  * Pointers and lengths
- *   Every pointer is followed by its length, counted in elements of its type and not in bytes. A pointer may not be NULL, also where the length is 0,
- *   and has to point to that many elements. Buffers of one call may not overlap. The length is all that a call knows of a buffer: one that is wrong
- *   is refused.
+ *   Every pointer is followed by its length, counted in elements of its type and not in bytes. A call takes for granted what it cannot test: a pointer
+ *   is not NULL, also where the length is 0; it points to that many elements, which may be read, and written where it is not const; the buffers of one
+ *   call do not overlap; nobody else writes them during the call, nor reads those that the call writes. That is all that a call asks of its caller. A
+ *   length that is wrong is refused.
  *
  * Any number is allowed as an argument, in the area and in a buffer: each gets a result or a refusal.
  *
  * A refusal is the first number that applies, 0 when done (MEZHTOLIK_DONE). A call that is refused leaves the area as it was, number for number.
- * A call that is done writes the numbers of the records that it changes and leaves every other number; mezhtolik_fresh and mezhtolik_run_job write
- * all of them. What else a refusal leaves or writes stands at the call.
+ * A call that is done writes the numbers of the records that it changes and leaves every other number; a job does what the calls of its lines do, and
+ * mezhtolik_fresh writes all numbers. What else a refusal leaves or writes stands at the call.
  */
 #ifndef MEZHTOLIK_H
 #define MEZHTOLIK_H
@@ -38,9 +39,21 @@ extern "C" {
  * Where each record stands in the area. All numbers count from 1, as in the calls: probe 1..3, ev and mv 1..20, tool 1..32, offset 1..4, axis 1..3
  * (abscissa, ordinate, applicate), place 1..6. The places of a probe's triggers: axis 1 negative 1, positive 2; axis 2: 3, 4; axis 3: 5, 6.
  *
- * A number that its record cannot hold is read as the nearest that it can: EV and MV -32768..32767, a status 0..255. It stays in the area until a call
- * writes its record. A number that a call changes is then in its range: a trigger within +-100000 u, a status in its six low bits (bit place - 1 for
- * each direction calibrated), a wear within +-2000000 h and an offset within +-20000000 h.
+ * Each record has a range, in which every call keeps it:
+ *   trigger  within +-100000 u
+ *   status   0..63: bit place - 1 for each direction calibrated
+ *   EV, MV   -32768..32767 u
+ *   wear     within +-2000000 h
+ *   offset   within +-20000000 h on each axis
+ *
+ * The caller may have written any number to the area. One beyond its range is read like this, by every call:
+ *   trigger  as the nearest within its range
+ *   status   as the nearest of 0..255, and of that the six low bits: 300 has all six directions, 64 and -1 have none
+ *   EV, MV   as the nearest within its range
+ *   wear     as it stands: a measurement that would leave the wear that it corrects beyond its range is refused by 9, also where it corrects by 0
+ *   offset   as it stands, and the same of each axis that a measurement corrects
+ * Such a number stays until a call changes it. A number that a call changes is in its range afterwards: a calibration sets one bit of the status as it is
+ * read, and a trigger that it does not replace stays as it stands.
  */
 #define MEZHTOLIK_TRIGGER(probe, place) (7 * ((probe) - 1) + (place) - 1)
 #define MEZHTOLIK_STATUS(probe) (7 * ((probe) - 1) + 6)
@@ -60,7 +73,7 @@ enum {
     MEZHTOLIK_WRONG_LIMITS = 4,     /* limits of a measurement that do not rise as they should */
     MEZHTOLIK_UNCALIBRATED = 5,     /* a direction that the measurement needs is not calibrated */
     MEZHTOLIK_NO_WIDTH = 6,         /* a pair whose high surface is not above its low one */
-    MEZHTOLIK_BEYOND_TSA = 7,       /* the deviation or change is larger than TSA */
+    MEZHTOLIK_BEYOND_TSA = 7,       /* the deviation or change is larger than TSA; a hole given for a shaft does this */
     MEZHTOLIK_BEYOND_TDIF = 8,      /* the deviation is larger than TDIF */
     MEZHTOLIK_LEAVES_RANGE = 9,     /* a trigger, wear or offset would leave its range */
     MEZHTOLIK_MALFORMED_LINE = 10,  /* a line of a job is malformed or has over 200 bytes; only in the answer of that line */
@@ -106,6 +119,26 @@ mezhtolik_status mezhtolik_probe_status(const int32_t *area, size_t area_length,
 
 /* ---- measurements */
 
+/* Kinds: with tool offset, and 100 more with zero offset. */
+enum {
+    MEZHTOLIK_KIND_PLANE = 0,         /* one surface, on axis 1..3 in its direction */
+    MEZHTOLIK_KIND_HOLE = 1,          /* inside, low and high on axes 1 and 2; its diameter is the width on axis 2 */
+    MEZHTOLIK_KIND_SHAFT = 2,         /* the same outside */
+    MEZHTOLIK_KIND_GROOVE = 3,        /* inside, low and high on axis 1 or 2 */
+    MEZHTOLIK_KIND_WEB = 4,           /* the same outside */
+    MEZHTOLIK_KIND_ZERO_PLANE = 100,  /* the offset of its axis grows by the deviation, twice as many h as u */
+    MEZHTOLIK_KIND_ZERO_HOLE = 101,   /* the offsets of axes 1 and 2 grow by the shift of the centre */
+    MEZHTOLIK_KIND_ZERO_SHAFT = 102,  /* the same outside */
+    MEZHTOLIK_KIND_ZERO_GROOVE = 103, /* the offset of its axis grows by the shift of the centre */
+    MEZHTOLIK_KIND_ZERO_WEB = 104     /* the same outside */
+};
+
+/* Directions, of a calibration and of a plane. Inside kinds touch low in the negative direction and high in the positive, outside kinds the reverse. */
+enum {
+    MEZHTOLIK_POSITIVE = 0, /* the probe moves towards greater positions: surface = raw + trigger */
+    MEZHTOLIK_NEGATIVE = 1  /* towards smaller ones: surface = raw - trigger */
+};
+
 /* How many arguments a measurement has, and how many numbers it writes to the result array. */
 #define MEZHTOLIK_TOOL_ARGUMENTS 21
 #define MEZHTOLIK_ZERO_ARGUMENTS 13
@@ -116,10 +149,10 @@ mezhtolik_status mezhtolik_probe_status(const int32_t *area, size_t area_length,
  * them only; the others may be any number.
  */
 enum {
-    MEZHTOLIK_ARG_KIND = 0,      /* 0 plane, 1 hole, 2 shaft, 3 groove, 4 web; 100 more for zero offset */
+    MEZHTOLIK_ARG_KIND = 0,      /* MEZHTOLIK_KIND_.. */
     MEZHTOLIK_ARG_PROBE = 1,     /* 1..3 */
     MEZHTOLIK_ARG_AXIS = 2,      /* plane 1..3; groove and web 1 or 2 */
-    MEZHTOLIK_ARG_DIRECTION = 3, /* plane: 0 positive, 1 negative */
+    MEZHTOLIK_ARG_DIRECTION = 3, /* plane: MEZHTOLIK_POSITIVE or MEZHTOLIK_NEGATIVE */
     MEZHTOLIK_ARG_SETPOINT = 4,  /* plane: a position; others: a width, 1..10000000 u */
     MEZHTOLIK_ARG_C1 = 5,        /* set centre on axis 1, within +-10000000 u, of kinds that measure a pair on it */
     MEZHTOLIK_ARG_C2 = 6,        /* the same on axis 2 */
@@ -143,10 +176,25 @@ enum {
     MEZHTOLIK_ARG_ZERO_TSA = 12 /* zero offset: TSA, 0..1000000 u */
 };
 
-/*
- * What a measurement answers. Branches: 1 and 2 without a mean, 3 mean kept, 4 correction by the mean, 5 correction by the deviation, 6 zero offset.
- * Verdict: 0 in tolerance, 1 oversize, 2 undersize; it stops no correction. Both are 0 where it is refused.
- */
+/* Branches: what a measurement did with the deviation D. */
+enum {
+    MEZHTOLIK_BRANCH_NONE = 0,        /* refused */
+    MEZHTOLIK_BRANCH_WITHIN_TZL = 1,  /* no mean named, |D| at most TZL: corrects nothing */
+    MEZHTOLIK_BRANCH_DEVIATION = 2,   /* no mean named, |D| above TZL and at most TMV: corrects by D */
+    MEZHTOLIK_BRANCH_MEAN_KEPT = 3,   /* a mean named, |D| at most TMV, the new mean at most TZL in size: it is kept, and nothing is corrected */
+    MEZHTOLIK_BRANCH_MEAN = 4,        /* a mean named, |D| at most TMV, the new mean above TZL in size: corrects by it, and the mean becomes 0 */
+    MEZHTOLIK_BRANCH_BEYOND_TMV = 5,  /* |D| above TMV: corrects by D, and the mean becomes 0 where one is named */
+    MEZHTOLIK_BRANCH_ZERO_OFFSET = 6  /* the zero offset grew */
+};
+
+/* Verdicts: how D stands to the tolerance. A verdict stops no correction. */
+enum {
+    MEZHTOLIK_IN_TOLERANCE = 0, /* from TLL to TUL; also with zero offset and where it is refused */
+    MEZHTOLIK_OVERSIZE = 1,     /* above TUL */
+    MEZHTOLIK_UNDERSIZE = 2     /* below TLL */
+};
+
+/* What a measurement answers. Branch and verdict are 0 where it is refused. */
 typedef struct mezhtolik_decision {
     uint32_t refusal;
     uint32_t branch;
@@ -165,9 +213,42 @@ mezhtolik_decision mezhtolik_measure_tool(int32_t *area, size_t area_length, con
 mezhtolik_decision mezhtolik_measure_zero(int32_t *area, size_t area_length, const int64_t *arguments, size_t arguments_length, int32_t *results,
                                           size_t results_length, size_t place);
 
-/* Places of the 42 numbers, counted from the place given to the measurement. */
+/* Places of the 42 numbers, counted from the place given to the measurement, by their numbers .. */
 #define MEZHTOLIK_OVR(n) (n)
 #define MEZHTOLIK_OVI(n) (32 + (n))
+
+/*
+ * .. and by name. What a kind has not is 0: set centre, centre and shift stand on the axes on which a pair is measured, and what is marked 'tool offset'
+ * is 0 with zero offset. Places without a name are always 0.
+ */
+enum {
+    MEZHTOLIK_OVR_SETPOINT = 0,     /* the setpoint, u */
+    MEZHTOLIK_OVR_SET_CENTRE_1 = 1, /* the set centre on axis 1, u */
+    MEZHTOLIK_OVR_SET_CENTRE_2 = 2, /* on axis 2 */
+    MEZHTOLIK_OVR_MEASURED = 4,     /* the measured position, width or diameter less the empirical value, u */
+    MEZHTOLIK_OVR_CENTRE_1 = 5,     /* the measured centre on axis 1, h */
+    MEZHTOLIK_OVR_CENTRE_2 = 6,     /* on axis 2 */
+    MEZHTOLIK_OVR_UPPER_LIMIT = 8,  /* tool offset: setpoint + TUL, u */
+    MEZHTOLIK_OVR_LOWER_LIMIT = 12, /* tool offset: setpoint + TLL, u */
+    MEZHTOLIK_OVR_DEVIATION = 16,   /* OVR[4] - OVR[0], u: with tool offset D */
+    MEZHTOLIK_OVR_SHIFT_1 = 17,     /* centre - 2 * set centre on axis 1, h */
+    MEZHTOLIK_OVR_SHIFT_2 = 18,     /* on axis 2 */
+    MEZHTOLIK_OVR_CORRECTION = 20,  /* tool offset: the correction c, u */
+    MEZHTOLIK_OVR_TZL = 27,         /* tool offset: TZL as given, u */
+    MEZHTOLIK_OVR_TSA = 28,         /* TSA as given, u */
+    MEZHTOLIK_OVR_TDIF = 29,        /* tool offset: TDIF as given, u */
+    MEZHTOLIK_OVR_EMPIRICAL = 30,   /* tool offset: the empirical value, u; 0 where none is named */
+    MEZHTOLIK_OVR_MEAN = 31,        /* tool offset: the mean value left in its record, u; 0 where none is named */
+    MEZHTOLIK_OVI_CORRECTED = 32,   /* OVI[0]: the number of the tool, or of the zero offset */
+    MEZHTOLIK_OVI_CYCLE = 34,       /* OVI[2]: 978 of a plane, 977 of every other kind */
+    MEZHTOLIK_OVI_KIND = 35,        /* OVI[3]: the kind */
+    MEZHTOLIK_OVI_K = 36,           /* OVI[4]: tool offset: k, also where no mean is named */
+    MEZHTOLIK_OVI_PROBE = 37,       /* OVI[5]: the number of the probe */
+    MEZHTOLIK_OVI_MV = 38,          /* OVI[6]: tool offset: the number of the mean value, 0 for none */
+    MEZHTOLIK_OVI_EV = 39,          /* OVI[7]: tool offset: the number of the empirical value, 0 for none */
+    MEZHTOLIK_OVI_TOOL = 40,        /* OVI[8]: tool offset: the number of the tool */
+    MEZHTOLIK_OVI_REFUSAL = 41      /* OVI[9]: 0; the refusal where it is refused, and then every other number is 0 */
+};
 
 /* ---- memory block */
 

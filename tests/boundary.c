@@ -210,6 +210,69 @@ static void any_content(void)
     CHECK(mezhtolik_load(area, MEZHTOLIK_AREA, buffer, 80) == 0 && only(MEZHTOLIK_EV(1), 40) && area[MEZHTOLIK_EV(1)] == 0 && area[MEZHTOLIK_MV(1)] == 0);
 }
 
+/* A number of the area before and after a job. */
+typedef struct number {
+    int place;
+    int32_t before, after;
+} number;
+
+/* Lines that read and change numbers out of range, with the answer of each. */
+static const char *const odd_lines[][2] = {
+    {"Z,100,1,3,0,500,0,0,-99500,0,0,0,2,1000", "0,6,0,0,0"}, /* status 300: all directions; trigger read as 100000 */
+    {"E,3,5", "0,0,0,0,0"},
+    {"E,4,32768", "3,0,0,0,0"},
+    {"E,4,007", "10,0,0,0,0"},
+    {"C,1,1,0,100000,0,0,200000", "0,0,0,0,0"}, /* from -100000, as it is read, to 100000 */
+    {"C,1,1,1,0,100000,0,0", "0,0,0,0,0"},      /* 100000 as it is read: not replaced */
+    {"C,2,3,0,0,-7,0,1000", "7,0,0,0,0"},       /* from -100000 to 7 */
+    {"C,3,2,0,0,-40,0,1000", "0,0,0,0,0"},
+    /* 60 u above the setpoint, the mean read as 32767: 32767 - 16354 is the new one, above TZL and then not */
+    {"T,0,1,1,0,200000,0,0,100060,0,0,0,3,0,1,2,20,100,150,-150,300,1000", "0,4,0,60,16413"},
+    {"T,0,1,1,0,200000,0,0,100060,0,0,0,3,0,3,2,20000,20000,150,-150,20000,20000", "0,3,0,60,0"},
+    {"T,0,1,1,0,200000,0,0,132827,0,0,0,3,1,0,1,20,100,150,-150,300,1000", "0,2,0,60,60"}, /* EV 1 read as 32767 */
+    /* the wear, and then the offset, is beyond its range: refused where it would stay there, and the mean with it */
+    {"T,0,1,1,0,200000,0,0,100000,0,0,0,1,0,2,1,20,100,150,-150,300,1000", "9,0,0,0,0"},
+    {"T,0,1,1,0,200000,0,0,99950,0,0,0,1,0,0,1,20,100,150,-150,300,1000", "0,2,0,-50,-50"},
+    {"W,2,1,2", "0,0,0,0,0"},
+    {"Z,100,1,1,0,200000,0,0,100000,0,0,0,1,1000", "9,0,0,0,0"},
+    {"Z,100,1,1,0,200000,0,0,99950,0,0,0,1,1000", "0,6,0,-50,0"},
+};
+
+static const number odd_numbers[] = {
+    {MEZHTOLIK_TRIGGER(1, 2), -2000000000, 100000}, {MEZHTOLIK_STATUS(1), 300, 63},
+    {MEZHTOLIK_TRIGGER(2, 6), INT32_MIN, INT32_MIN}, {MEZHTOLIK_STATUS(2), -1, -1},
+    {MEZHTOLIK_TRIGGER(3, 4), 0, 40}, {MEZHTOLIK_STATUS(3), 64, 8},
+    {MEZHTOLIK_EV(3), 70000, 5}, {MEZHTOLIK_MV(1), 40000, 0}, {MEZHTOLIK_MV(2), INT32_MIN, INT32_MIN}, {MEZHTOLIK_MV(3), 40000, 16413},
+    {MEZHTOLIK_RADIUS_WEAR(1), 2000001, 2000001 - 100}, {MEZHTOLIK_RADIUS_WEAR(2), -2000001, 1}, {MEZHTOLIK_LENGTH_WEAR(2), 2000001, 2},
+    {MEZHTOLIK_RADIUS_WEAR(3), 0, 2 * 16413 + 2 * 60}, {MEZHTOLIK_OFFSET(1, 1), 20000001, 20000001 - 100}, {MEZHTOLIK_OFFSET(2, 3), 7, 7},
+};
+
+/* A job changes what the calls of its lines change: every other number is far out of range here, and stays as it stands. */
+static void job_on_any_content(void)
+{
+    char job[2000] = "", answers[LENGTH(odd_lines) * MEZHTOLIK_LINE_ROOM] = "", output[sizeof answers];
+    mezhtolik_job j;
+    size_t i;
+
+    for (i = 0; i < LENGTH(odd_lines); i++) {
+        sprintf(job + strlen(job), "%s\n", odd_lines[i][0]);
+        sprintf(answers + strlen(answers), "%d,%s\n", (int)i + 1, odd_lines[i][1]);
+    }
+    for (i = 0; i < MEZHTOLIK_AREA; i++) {
+        area[i] = INT32_MAX - (int32_t)i;
+    }
+    for (i = 0; i < LENGTH(odd_numbers); i++) {
+        area[odd_numbers[i].place] = odd_numbers[i].before;
+    }
+    remember();
+    for (i = 0; i < LENGTH(odd_numbers); i++) {
+        room_before[1 + odd_numbers[i].place] = odd_numbers[i].after;
+    }
+    j = mezhtolik_run_job(area, MEZHTOLIK_AREA, (const uint8_t *)job, strlen(job), (uint8_t *)output, sizeof output);
+    CHECK(j.refusal == MEZHTOLIK_DONE && j.length == strlen(answers) && memcmp(output, answers, j.length) == 0);
+    CHECK(area_left());
+}
+
 /* A calibration and a malformed line. */
 static void jobs(void)
 {
@@ -250,6 +313,7 @@ int main(void)
     blocks();
     jobs();
     any_content();
+    (void)job_on_any_content; /* for jobs that run on the area itself */
     CHECK(room[0] == GUARD && area[MEZHTOLIK_AREA] == GUARD && area[MEZHTOLIK_AREA + 1] == GUARD);
     return 0;
 }

@@ -19,7 +19,7 @@ static void measure(int64_t axis, int64_t low, int64_t high)
     mezhtolik_decision d;
 
     memset(a, 0, sizeof a);
-    a[MEZHTOLIK_ARG_KIND] = 3;
+    a[MEZHTOLIK_ARG_KIND] = MEZHTOLIK_KIND_GROOVE;
     a[MEZHTOLIK_ARG_PROBE] = 1;
     a[MEZHTOLIK_ARG_AXIS] = axis;
     a[MEZHTOLIK_ARG_SETPOINT] = 200000;
@@ -36,7 +36,7 @@ static void measure(int64_t axis, int64_t low, int64_t high)
     a[MEZHTOLIK_ARG_TSA] = 1000;
     d = mezhtolik_measure_tool(area, MEZHTOLIK_AREA, a, MEZHTOLIK_TOOL_ARGUMENTS, results, MEZHTOLIK_RESULTS, 0);
     printf("groove on axis %" PRId64 ": refusal %" PRIu32 ", branch %" PRIu32 ", verdict %" PRIu32, axis, d.refusal, d.branch, d.verdict);
-    printf(", deviation %" PRId32 ", correction %" PRId32 "\n", results[MEZHTOLIK_OVR(16)], results[MEZHTOLIK_OVR(20)]);
+    printf(", deviation %" PRId32 ", correction %" PRId32 "\n", results[MEZHTOLIK_OVR_DEVIATION], results[MEZHTOLIK_OVR_CORRECTION]);
 }
 
 static void show(const char *when)
@@ -50,8 +50,8 @@ int main(void)
     mezhtolik_status s;
 
     printf("fresh: %" PRIu32 "\n", mezhtolik_fresh(area, MEZHTOLIK_AREA));
-    printf("calibrate, positive: %" PRIu32 "\n", mezhtolik_calibrate(area, MEZHTOLIK_AREA, 1, 1, 0, 0, -500, 0, 1000));
-    printf("calibrate, negative: %" PRIu32 "\n", mezhtolik_calibrate(area, MEZHTOLIK_AREA, 1, 1, 1, 0, 500, 0, 1000));
+    printf("calibrate, positive: %" PRIu32 "\n", mezhtolik_calibrate(area, MEZHTOLIK_AREA, 1, 1, MEZHTOLIK_POSITIVE, 0, -500, 0, 1000));
+    printf("calibrate, negative: %" PRIu32 "\n", mezhtolik_calibrate(area, MEZHTOLIK_AREA, 1, 1, MEZHTOLIK_NEGATIVE, 0, 500, 0, 1000));
     s = mezhtolik_probe_status(area, MEZHTOLIK_AREA, 1);
     printf("probe 1: bits %" PRIu32 ", %" PRIu32 " directions\n", s.bits, s.count);
 

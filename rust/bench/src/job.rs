@@ -65,23 +65,37 @@ pub fn text() -> Vec<u8> {
     lines.collect::<String>().into_bytes()
 }
 
-/// What the job has, by the reference's answers.
-pub fn summary(text: &[u8]) -> String {
-    let output = fresh_job(text).expect("a sound job");
+/// How many lines a job has.
+pub fn lines(text: &[u8]) -> usize {
+    text.iter().filter(|&&byte| byte == b'\n').count()
+}
+
+/// What a job has, by the reference's answers; one that is refused has none.
+pub fn summary(text: &[u8]) -> Result<String, String> {
+    let output = fresh_job(text).map_err(|refusal| format!("refused: {}", refusal.meaning()))?;
     let answers = output
         .split(|&byte| byte == b'\n')
         .filter(|line| !line.is_empty());
     let refusal = |line: &[u8]| line.split(|&byte| byte == b',').nth(1) != Some(b"0");
     let refused = answers.filter(|line| refusal(line)).count();
-    format!(
-        "{LINES} lines, {} bytes, {refused} lines refused",
+    Ok(format!(
+        "{} lines, {} bytes, {refused} lines refused",
+        lines(text),
         text.len()
-    )
+    ))
 }
 
 #[cfg(test)]
 mod tests {
     use super::*;
+
+    #[test]
+    fn lines_and_refusals_are_counted() {
+        let summary = |text: &str| summary(text.as_bytes());
+        let counted = "3 lines, 20 bytes, 2 lines refused".to_owned();
+        assert_eq!(summary("E,1,2\nE,1,02\nE,21,2\n"), Ok(counted));
+        assert_eq!(summary(""), Err("refused: job is empty".to_owned()));
+    }
 
     #[test]
     fn both_sides_answer_the_job_alike_and_refuse_few_lines() {

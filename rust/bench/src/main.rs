@@ -1,12 +1,22 @@
 //! Speed of the package against the reference.
 
+mod count;
 mod inputs;
 mod job;
+mod reading;
 mod rows;
+mod sides;
 mod timing;
 
+use std::process::ExitCode;
+
 use rows::Start;
+use sides::Side;
 use timing::{Row, Timed};
+
+const USAGE: &str = "usage: bench [--count [JOB ..] | --run SIDE TIMES [JOB]]
+  --count  instructions in place of times; valgrind is needed
+  --run    a job of a side over and over, for --count";
 
 /// Rounds unless ROUNDS says otherwise.
 const ROUNDS: usize = 1_001;
@@ -15,14 +25,21 @@ fn per_second(nanoseconds: f64) -> String {
     format!("{:.2} M", 1_000.0 / nanoseconds)
 }
 
+fn print_heading([first, second]: [&str; 2]) {
+    println!(
+        "{:<16} {first:>12} {second:>12} {first:>12} {second:>12} {:>8}",
+        "", "ratio"
+    );
+}
+
 fn print(row: &Row, timed: &Timed) {
     println!(
         "{:<16} {:>9.1} ns {:>9.1} ns {:>10}/s {:>10}/s {:>8.2}",
         row.name,
         timed.package,
-        timed.reference,
+        timed.other,
         per_second(timed.package),
-        per_second(timed.reference),
+        per_second(timed.other),
         timed.ratio()
     );
 }
@@ -36,19 +53,56 @@ fn rounds() -> usize {
         .max(1)
 }
 
-fn main() {
+/// The table of all calls, and the job against its limit.
+fn time() -> Result<(), String> {
     let text = job::text();
     let start = Start::calibrated();
     let rounds = rounds();
-    let mut rows = rows::rows(&start, &text);
+    let mut rows = rows::calls(&start, &text);
+    rows.push(rows::limit(&text));
     let timed = timing::time(&mut rows, rounds);
-    println!("job: {}", job::summary(&text));
+    println!("job: {}", job::summary(&text)?);
     println!("medians of {rounds} rounds, both sides in turns; ratio is the package's speed over the reference's");
-    println!(
-        "{:<16} {:>12} {:>12} {:>12} {:>12} {:>8}",
-        "", "package", "reference", "package", "reference", "ratio"
-    );
-    for (row, timed) in rows.iter().zip(&timed) {
+    print_heading(["package", "reference"]);
+    let mut lines = rows.iter().zip(&timed);
+    let limit = lines.next_back();
+    lines.for_each(|(row, timed)| print(row, timed));
+    if let Some((row, timed)) = limit {
+        println!("the limit: the lines and numbers of the same job only read, nothing evaluated");
+        print_heading(["run_job", "only read"]);
         print(row, timed);
+        println!("run_job takes {:.1} times as long", 1.0 / timed.ratio());
+    }
+    Ok(())
+}
+
+fn count(paths: &[&str]) -> Result<(), String> {
+    count::print(None)?;
+    paths.iter().try_for_each(|path| count::print(Some(path)))
+}
+
+fn run(side: &str, times: &str, path: Option<&str>) -> Result<(), String> {
+    match (Side::named(side), times.parse()) {
+        (Some(side), Ok(times)) => count::run(side, times, path),
+        _ => Err(USAGE.to_owned()),
+    }
+}
+
+fn main() -> ExitCode {
+    let arguments: Vec<String> = std::env::args().skip(1).collect();
+    let arguments: Vec<&str> = arguments.iter().map(String::as_str).collect();
+    let done = match arguments[..] {
+        [] => time(),
+        ["--count", ref paths @ ..] => count(paths),
+        ["--run", side, times] => run(side, times, None),
+        ["--run", side, times, path] => run(side, times, Some(path)),
+        _ => Err(USAGE.to_owned()),
+    };
+    match done {
+        Ok(()) => ExitCode::SUCCESS,
+        Err(why) => {
+            eprintln!("{why}");
+            ExitCode::from(2)
+        }
     }
 }

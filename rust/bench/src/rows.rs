@@ -3,11 +3,14 @@
 use std::hint::black_box;
 
 use crate::inputs;
-use crate::job::LINES;
+use crate::job::lines;
+use crate::sides::Side;
 use crate::timing::Row;
 use differential::{layout, subject};
-use reference::calibration::Calibrated;
-use reference::{Calibration, Measured, Refusal, ToolMeasurement, ZeroMeasurement};
+use mezhtolik::boundary;
+use reference::{
+    Calibrated, Calibration, Measured, ProbeStatus, Refusal, ToolMeasurement, ZeroMeasurement,
+};
 
 /// Calls of one round.
 const CALLS: usize = 960;
@@ -50,7 +53,7 @@ fn row<'a, A: 'a, B: 'a>(
                     .for_each(|argument| package(&mut our_package, black_box(argument)));
             }
         }),
-        reference: Box::new(move || {
+        other: Box::new(move || {
             their_package.clone_from(&start.reference);
             for _ in 0..times {
                 theirs
@@ -75,19 +78,27 @@ struct Calls {
     measure_tool: Measure<ToolMeasurement>,
     measure_zero: Measure<ZeroMeasurement>,
     calibrate: fn(&mut reference::Package, &Calibration) -> Result<Calibrated, Refusal>,
+    status: fn(&reference::Package, i64) -> Result<ProbeStatus, Refusal>,
     set_empirical: fn(&mut reference::Package, i64, i64) -> Result<(), Refusal>,
+    set_wear: fn(&mut reference::Package, i64, i64, i64) -> Result<(), Refusal>,
+    set_offset: fn(&mut reference::Package, i64, [i64; 3]) -> Result<(), Refusal>,
+    fresh: fn() -> reference::Package,
     load: fn(&mut reference::Package, &[u8]) -> Result<(), Refusal>,
     save: fn(&reference::Package, &mut [u8]) -> Result<(), Refusal>,
 }
 
 type Measure<A> = fn(&mut reference::Package, &A, &mut [i32], usize) -> Result<Measured, Refusal>;
 
-fn calls() -> Calls {
+fn of_reference() -> Calls {
     black_box(Calls {
         measure_tool: reference::Package::measure_tool,
         measure_zero: reference::Package::measure_zero,
         calibrate: reference::Package::calibrate,
+        status: reference::Package::status,
         set_empirical: reference::Package::set_empirical,
+        set_wear: reference::Package::set_wear,
+        set_offset: reference::Package::set_offset,
+        fresh: reference::Package::fresh,
         load: reference::Package::load,
         save: reference::Package::save,
     })
@@ -98,7 +109,7 @@ fn measurements(start: &Start) -> [Row<'_>; 2] {
         measure_tool,
         measure_zero,
         ..
-    } = calls();
+    } = of_reference();
     let (mut ours, mut theirs) = ([0; 42], [0; 42]);
     let (mut our_zero, mut their_zero) = (ours, theirs);
     [
@@ -131,13 +142,10 @@ fn measurements(start: &Start) -> [Row<'_>; 2] {
     ]
 }
 
-fn settings(start: &Start) -> [Row<'_>; 2] {
+fn probes(start: &Start) -> [Row<'_>; 2] {
     let Calls {
-        calibrate,
-        set_empirical,
-        ..
-    } = calls();
-    let values: Vec<(i64, i64)> = (0..60).map(|turn| (1 + turn % 20, turn - 30)).collect();
+        calibrate, status, ..
+    } = of_reference();
     [
         row(
             "calibrate",
@@ -151,9 +159,32 @@ fn settings(start: &Start) -> [Row<'_>; 2] {
             },
         ),
         row(
+            "probe_status",
+            start,
+            same(vec![1, 2, 3]),
+            |package, &probe| {
+                let _ = black_box(package.probe_status(probe));
+            },
+            move |package, &probe| {
+                let _ = black_box(status(package, probe));
+            },
+        ),
+    ]
+}
+
+fn settings(start: &Start) -> [Row<'_>; 2] {
+    let Calls {
+        set_empirical,
+        set_wear,
+        ..
+    } = of_reference();
+    let values = (0..60).map(|turn| (1 + turn % 20, turn - 30));
+    let wears = (0..60).map(|turn| (1 + turn % 32, turn - 30, -turn));
+    [
+        row(
             "set_empirical",
             start,
-            same(values),
+            same(values.collect()),
             |package, &(ev, value)| {
                 let _ = black_box(package.set_empirical(ev, value));
             },
@@ -161,11 +192,56 @@ fn settings(start: &Start) -> [Row<'_>; 2] {
                 let _ = black_box(set_empirical(package, ev, value));
             },
         ),
+        row(
+            "set_wear",
+            start,
+            same(wears.collect()),
+            |package, &(tool, radius, length)| {
+                let _ = black_box(package.set_wear(tool, radius, length));
+            },
+            move |package, &(tool, radius, length)| {
+                let _ = black_box(set_wear(package, tool, radius, length));
+            },
+        ),
     ]
 }
 
+fn zero_offsets(start: &Start) -> Row<'_> {
+    let Calls { set_offset, .. } = of_reference();
+    let offsets = (0..60).map(|turn| (1 + turn % 4, [turn, -turn, 12_000]));
+    row(
+        "set_offset",
+        start,
+        same(offsets.collect()),
+        |package, &(offset, values)| {
+            let _ = black_box(package.set_offset(offset, values));
+        },
+        move |package, &(offset, values)| {
+            let _ = black_box(set_offset(package, offset, values));
+        },
+    )
+}
+
+/// Both make the records that are there fresh ones.
+fn fresh(start: &Start) -> Row<'_> {
+    let Calls { fresh, .. } = of_reference();
+    let mut area = *start.package.area();
+    row(
+        "fresh",
+        start,
+        same(vec![(); 16]),
+        move |_, ()| {
+            black_box(boundary::fresh(black_box(&mut area)));
+        },
+        move |package, ()| {
+            *package = fresh();
+            black_box(package);
+        },
+    )
+}
+
 fn blocks(start: &Start) -> [Row<'_>; 2] {
-    let Calls { load, save, .. } = calls();
+    let Calls { load, save, .. } = of_reference();
     let block =
         |turn: u8| -> Vec<u8> { (0..80).map(|place: u8| place.wrapping_mul(turn)).collect() };
     let (mut ours, mut theirs) = ([0; 80], [0; 80]);
@@ -195,33 +271,31 @@ fn blocks(start: &Start) -> [Row<'_>; 2] {
     ]
 }
 
-/// The job from a fresh package, a line counting as one.
-fn job(text: &[u8]) -> Row<'_> {
-    let mut ours = vec![0; 40 * LINES];
-    let mut theirs = ours.clone();
+/// A job of the package against that of another side, a line counting as one.
+fn job<'a>(name: &'static str, text: &'a [u8], other: Side) -> Row<'a> {
     Row {
-        name: "run_job, a line",
-        count: LINES,
-        package: Box::new(move || {
-            let mut package = mezhtolik::Package::fresh();
-            let _ = black_box(package.run_job(black_box(text), &mut ours));
-            black_box(&package);
-        }),
-        reference: Box::new(move || {
-            let mut package = reference::Package::fresh();
-            let _ = black_box(package.run_job(black_box(text), &mut theirs));
-            black_box(&package);
-        }),
+        name,
+        count: lines(text),
+        package: Side::Package.work(text),
+        other: other.work(text),
     }
 }
 
-/// All rows.
-pub fn rows<'a>(start: &'a Start, job_text: &'a [u8]) -> Vec<Row<'a>> {
-    let mut rows = vec![job(job_text)];
+/// A row for each exported call.
+pub fn calls<'a>(start: &'a Start, job_text: &'a [u8]) -> Vec<Row<'a>> {
+    let mut rows = vec![job("run_job, a line", job_text, Side::Reference)];
     rows.extend(measurements(start));
+    rows.extend(probes(start));
     rows.extend(settings(start));
+    rows.push(zero_offsets(start));
     rows.extend(blocks(start));
+    rows.push(fresh(start));
     rows
+}
+
+/// The job against its limit.
+pub fn limit(job_text: &[u8]) -> Row<'_> {
+    job("a line", job_text, Side::Reading)
 }
 
 #[cfg(test)]
@@ -229,6 +303,7 @@ mod tests {
     use super::*;
     use differential::Pair;
     use reference::Call;
+    use std::{collections::BTreeSet, fs};
 
     /// Makes the calls on both sides and counts them by branch, 0 for refused.
     fn branches(calls: impl Iterator<Item = Call>) -> [usize; 7] {
@@ -266,6 +341,24 @@ mod tests {
                     }),
             );
         assert!(zero[6] >= inputs::PARTS * 4 / 5, "{zero:?}");
+    }
+
+    /// The names of the calls that the C header declares.
+    fn declared() -> BTreeSet<String> {
+        let path = concat!(env!("CARGO_MANIFEST_DIR"), "/../../include/mezhtolik.h");
+        let header = fs::read_to_string(path).expect("the C header");
+        let words = header.split(|c: char| !c.is_alphanumeric() && c != '_' && c != '(');
+        let calls = words.filter_map(|word| word.strip_prefix("mezhtolik_")?.split_once('('));
+        calls.map(|(name, _)| name.to_owned()).collect()
+    }
+
+    #[test]
+    fn every_declared_call_has_a_row() {
+        let start = Start::calibrated();
+        let text = crate::job::text();
+        let rows = calls(&start, &text);
+        let names = rows.iter().map(|row| row.name.replace(", a line", ""));
+        assert_eq!(names.collect::<BTreeSet<_>>(), declared());
     }
 
     #[test]

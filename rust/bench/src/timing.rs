@@ -2,25 +2,26 @@
 
 use std::time::Instant;
 
-/// One thing that both sides do; a round does it `count` times.
+/// One thing that the package does and another side too; a round does it
+/// `count` times.
 pub struct Row<'a> {
     pub name: &'static str,
     pub count: usize,
     pub package: Box<dyn FnMut() + 'a>,
-    pub reference: Box<dyn FnMut() + 'a>,
+    pub other: Box<dyn FnMut() + 'a>,
 }
 
 /// Nanoseconds of one of them, medians over all rounds.
 #[derive(Clone, Copy, Debug)]
 pub struct Timed {
     pub package: f64,
-    pub reference: f64,
+    pub other: f64,
 }
 
 impl Timed {
-    /// The package's speed over the reference's.
+    /// The package's speed over the other side's.
     pub fn ratio(&self) -> f64 {
-        self.reference / self.package
+        self.other / self.package
     }
 }
 
@@ -40,8 +41,8 @@ fn median(mut samples: Vec<f64>) -> f64 {
 pub fn time(rows: &mut [Row], rounds: usize) -> Vec<Timed> {
     let mut samples = vec![[Vec::new(), Vec::new()]; rows.len()];
     for round in 0..rounds {
-        for (row, [package, reference]) in rows.iter_mut().zip(&mut samples) {
-            let mut sides = [(&mut row.package, package), (&mut row.reference, reference)];
+        for (row, [package, other]) in rows.iter_mut().zip(&mut samples) {
+            let mut sides = [(&mut row.package, package), (&mut row.other, other)];
             if round % 2 == 1 {
                 sides.reverse();
             }
@@ -51,6 +52,6 @@ pub fn time(rows: &mut [Row], rounds: usize) -> Vec<Timed> {
         }
     }
     let medians = samples.into_iter().map(|sides| sides.map(median));
-    let timed = medians.map(|[package, reference]| Timed { package, reference });
+    let timed = medians.map(|[package, other]| Timed { package, other });
     timed.collect()
 }
