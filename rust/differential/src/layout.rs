@@ -57,7 +57,8 @@ pub fn records(area: &Area) -> Records {
     records
 }
 
-/// The places of the numbers that a call writes when it is done.
+/// The places of the numbers that a call writes when it is done; a job has none
+/// but those of its lines.
 pub fn written(call: &Call) -> Vec<Range<usize>> {
     let part = |start: usize, size: usize, number: i64| {
         let at = start + size * (number as usize - 1);
@@ -75,8 +76,7 @@ pub fn written(call: &Call) -> Vec<Range<usize>> {
         }
         Call::MeasureZero { measurement, .. } => vec![part(OFFSETS, 3, measurement.offset)],
         Call::Load { .. } => vec![part(EMPIRICAL, TOOLS - EMPIRICAL, 1)],
-        Call::RunJob { .. } => vec![part(0, AREA, 1)],
-        Call::Status { .. } | Call::Save { .. } => vec![],
+        Call::Status { .. } | Call::Save { .. } | Call::RunJob { .. } => vec![],
     }
 }
 

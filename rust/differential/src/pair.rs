@@ -4,7 +4,8 @@ use crate::difference::Difference;
 use crate::layout::{self, Area};
 use crate::subject;
 use mezhtolik::AREA;
-use reference::{Answer, Call, Fault};
+use reference::job::{job_calls, runnable_lines};
+use reference::{Answer, Call, Fault, Records};
 
 /// Both after the same calls, and the area that the package should have.
 pub struct Pair {
@@ -39,26 +40,25 @@ impl Pair {
     /// Makes a call on both and gives its answer, unless something differs.
     pub fn step(&mut self, call: &Call) -> Result<Answer, Difference> {
         let package = subject::apply(&mut self.package, call);
+        let before = self.reference.clone();
         let reference = self.reference.apply(call);
         if package != reference {
             return Err(Difference::Answers(Box::new([package, reference])));
         }
-        self.follow(call, &reference);
+        match call {
+            Call::RunJob { text, buffer } => self.follow_job(before, text, buffer.len()),
+            _ => follow(&mut self.area, call, &reference, self.reference.records()),
+        }
         self.compare_areas()?;
         Ok(reference)
     }
 
-    /// A call that is done writes the numbers of the records that it changes,
-    /// any other leaves the area; a fault of the reference shows here too.
-    fn follow(&mut self, call: &Call, answer: &Answer) {
-        let new = layout::numbers(self.reference.records());
-        if answer.refusal == 0 {
-            for places in layout::written(call) {
-                self.area[places.clone()].copy_from_slice(&new[places]);
-            }
-        }
-        if layout::records(&self.area) != *self.reference.records() {
-            self.area = new;
+    /// A job that runs writes what the calls of its lines write.
+    fn follow_job(&mut self, mut reference: reference::Package, text: &[u8], room: usize) {
+        let lines = runnable_lines(text, room).unwrap_or_default();
+        for call in job_calls(&lines) {
+            let answer = reference.apply(&call);
+            follow(&mut self.area, &call, &answer, reference.records());
         }
     }
 
@@ -84,5 +84,20 @@ impl Pair {
                 "  package   {shown:?}\n  reference {read:?}"
             ))),
         }
+    }
+}
+
+/// A call that is done writes the numbers of the records that it changes, any
+/// other leaves the area; a fault of the reference shows here too. The records
+/// are those after the call.
+fn follow(area: &mut Area, call: &Call, answer: &Answer, records: &Records) {
+    let new = layout::numbers(records);
+    if answer.refusal == 0 {
+        for places in layout::written(call) {
+            area[places.clone()].copy_from_slice(&new[places]);
+        }
+    }
+    if layout::records(area) != *records {
+        *area = new;
     }
 }
