@@ -1,8 +1,8 @@
 // The calls for C: each hands on to the call in place, on the area that the caller lends.
-use arguments::tool_of;
-use arguments::zero_of;
 use area::AREA;
 use area::WRONG_AREA;
+use arguments::tool_of;
+use arguments::zero_of;
 use calibrating::calibrate;
 use calibrating::probe_status;
 use jobs::Ran;

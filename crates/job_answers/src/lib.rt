@@ -1,10 +1,10 @@
 // The answer of a line, and how it is written. Document 01, 'Job files'.
-use package::Evaluation;
-use text::COMMA;
-use text::LINE_FEED;
 use decimals::put_byte;
 use decimals::put_number;
 use decimals::put_whole;
+use package::Evaluation;
+use text::COMMA;
+use text::LINE_FEED;
 ghost use mathlib.Core.Path.{_≡_};
 ghost use Prim.Native.Nat.{_+_, _≤_};
 ghost use lib.ListN.{length};

@@ -11,11 +11,11 @@ use crate::run::answered;
 use area::MEANS;
 use area::OFFSETS;
 use area::TOOLS;
+use boundary::mezhtolik_measure_tool;
+use boundary::mezhtolik_measure_zero;
 use check::same;
 use layout::write_numbers;
 use measuring::Decided;
-use boundary::mezhtolik_measure_tool;
-use boundary::mezhtolik_measure_zero;
 
 // The places of a result array, those of the manual's first array, and the greatest length of an array here.
 const RESULTS: usize = 42;

@@ -64,4 +64,5 @@ returns-3 c =
 pub probe-status-spec : {M : Type 1} → statement M
 probe-status-spec =
     tie.close
-    (tie.spec no-status-requires returns in-range-requires no-status-requires-2 returns-2 number-at-requires status-from-requires status-answer-requires returns-3)
+    (tie.spec no-status-requires returns in-range-requires no-status-requires-2 returns-2 number-at-requires status-from-requires status-answer-requires
+    returns-3)

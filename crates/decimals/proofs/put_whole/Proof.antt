@@ -74,5 +74,5 @@ returns c = let l = c .before in (omega (arith, l .before .digit-count .ensures)
 pub put-whole-spec : {M : Type 1} → statement M
 put-whole-spec =
     tie.close
-    (tie.spec Inv-loop μ-loop digit-count-requires add-end loop-holds sub-k cast-out add-out slice-write-out loop-less loop-again cast-out-2
-    add-out-2 slice-write-out-2 same-length returns)
+    (tie.spec Inv-loop μ-loop digit-count-requires add-end loop-holds sub-k cast-out add-out slice-write-out loop-less loop-again cast-out-2 add-out-2
+    slice-write-out-2 same-length returns)

@@ -68,6 +68,4 @@ returns-3 c =
     (shift ∙ sym (a-pair (s .args .k .form) _ _ (c .before .match .keys2)), rw shift (shift-size z (s .pre) (s .args .n)))
 
 pub growth-of-spec : {M : Type 1} → statement M
-growth-of-spec =
-    tie.close
-    (tie.spec corrects-on-requires returns enum-told difference-of-requires mul-result shift-on-requires returns-2 returns-3)
+growth-of-spec = tie.close (tie.spec corrects-on-requires returns enum-told difference-of-requires mul-result shift-on-requires returns-2 returns-3)

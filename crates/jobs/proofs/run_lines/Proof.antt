@@ -216,12 +216,14 @@ returns c =
     let aft : linesArea a (lines (job l)) ≡ l .loop .area = l .loop .inv .8 ∙ ap (linesArea (l .loop .area)) none ∙ area-none (l .loop .area) in
     let len : length (take n out) ≡ n = length-take-le n out (omega (arith, l .loop .inv .1, l .loop .inv .2, l .loop .inv .4, live l .room)) in (
       sym (ap length txt ∙ len),
-      (sym aft,
-      rw txt (from-start (old l) out (take n out) (rw (len, ← l .loop .inv .6) (sym (take-append-drop n out))))),
+      (
+        sym aft,
+        rw txt (from-start (old l) out (take n out) (rw (len, ← l .loop .inv .6) (sym (take-append-drop n out)))),
+      ),
     )
 
 pub run-lines-spec : {M : Type 1} → statement M
 run-lines-spec =
     tie.close
-    (tie.spec Inv-loop μ-loop loop-holds sub-read-line part-read-line-start part-read-line-end read-line-requires add-number run-line-requires put-row-requires add-at add-at-2
-    loop-less loop-again same-length same-length-2 same-length-3 returns)
+    (tie.spec Inv-loop μ-loop loop-holds sub-read-line part-read-line-start part-read-line-end read-line-requires add-number run-line-requires put-row-requires
+    add-at add-at-2 loop-less loop-again same-length same-length-2 same-length-3 returns)

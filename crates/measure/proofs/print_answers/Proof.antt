@@ -57,5 +57,5 @@ returns-3 c = search needs
 pub print-answers-spec : {M : Type 1} → statement M
 print-answers-spec =
     tie.close
-    (tie.spec slice-aggregate-fresh fresh-requires slice-aggregate-run-job slice-aggregate-run-job-2 run-job-requires refused-requires returns array-share-prefix-output
-    slice-aggregate-write-all write-all-requires unwritten-requires returns-2 returns-3)
+    (tie.spec slice-aggregate-fresh fresh-requires slice-aggregate-run-job slice-aggregate-run-job-2 run-job-requires refused-requires returns
+    array-share-prefix-output slice-aggregate-write-all write-all-requires unwritten-requires returns-2 returns-3)

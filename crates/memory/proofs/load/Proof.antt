@@ -52,5 +52,5 @@ returns-3 c =
 pub load-spec : {M : Type 1} → statement M
 load-spec =
     tie.close
-    (tie.spec returns returns-2 slice-aggregate-write-values write-values-requires sub-write-values part-write-values-start part-write-values-end write-values-requires-2 same-length
-    returns-3)
+    (tie.spec returns returns-2 slice-aggregate-write-values write-values-requires sub-write-values part-write-values-start part-write-values-end
+    write-values-requires-2 same-length returns-3)

@@ -90,5 +90,5 @@ returns c =
 pub read-values-spec : {M : Type 1} → statement M
 read-values-spec =
     tie.close
-    (tie.spec Inv-loop μ-loop loop-holds add-value-from mul-value-from shared-slice-copy-out-value-from value-from-requires mul-values array-set-from-values add-i loop-less loop-again
-    returns)
+    (tie.spec Inv-loop μ-loop loop-holds add-value-from mul-value-from shared-slice-copy-out-value-from value-from-requires mul-values array-set-from-values
+    add-i loop-less loop-again returns)

@@ -97,5 +97,5 @@ returns c =
 pub write-values-spec : {M : Type 1} → statement M
 write-values-spec =
     tie.close
-    (tie.spec Inv-loop μ-loop loop-holds mul-decode shared-slice-read-decode mul-decode-2 add-decode shared-slice-read-decode-2 decode-requires cast-area add-t7 mul-t10
-    slice-set-from-area add-i loop-less loop-again same-length returns)
+    (tie.spec Inv-loop μ-loop loop-holds mul-decode shared-slice-read-decode mul-decode-2 add-decode shared-slice-read-decode-2 decode-requires cast-area
+    add-t7 mul-t10 slice-set-from-area add-i loop-less loop-again same-length returns)

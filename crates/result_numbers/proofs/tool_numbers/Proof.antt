@@ -211,8 +211,7 @@ returns c =
 pub tool-numbers-spec : {M : Type 1} → statement M
 tool-numbers-spec =
     tie.close
-    (tie.spec
-    size-numbers-requires add-narrow narrow-requires array-set-from-n add-narrow-2 narrow-requires-2 array-set-from-n-2 narrow-requires-3
-    array-set-from-n-3 narrow-requires-4 array-set-from-n-4 narrow-requires-5 array-set-from-n-5 narrow-requires-6 array-set-from-n-6
-    narrow-requires-7 array-set-from-n-7 narrow-requires-8 array-set-from-n-8 narrow-requires-9 array-set-from-n-9 narrow-requires-10
-    array-set-from-n-10 narrow-requires-11 array-set-from-n-11 narrow-requires-12 array-set-from-n-12 narrow-requires-13 array-set-from-n-13 returns)
+    (tie.spec size-numbers-requires add-narrow narrow-requires array-set-from-n add-narrow-2 narrow-requires-2 array-set-from-n-2 narrow-requires-3
+    array-set-from-n-3 narrow-requires-4 array-set-from-n-4 narrow-requires-5 array-set-from-n-5 narrow-requires-6 array-set-from-n-6 narrow-requires-7
+    array-set-from-n-7 narrow-requires-8 array-set-from-n-8 narrow-requires-9 array-set-from-n-9 narrow-requires-10 array-set-from-n-10 narrow-requires-11
+    array-set-from-n-11 narrow-requires-12 array-set-from-n-12 narrow-requires-13 array-set-from-n-13 returns)

@@ -45,5 +45,4 @@ returns c =
     omega arith
 
 pub count-block-spec : {M : Type 1} → statement M
-count-block-spec =
-    tie.close (tie.spec Inv-loop μ-loop loop-holds shared-slice-read-if1 add-n add-i loop-less loop-again returns)
+count-block-spec = tie.close (tie.spec Inv-loop μ-loop loop-holds shared-slice-read-if1 add-n add-i loop-less loop-again returns)

@@ -117,5 +117,5 @@ returns-4 c =
 pub read-number-spec : {M : Type 1} → statement M
 read-number-spec =
     tie.close
-    (tie.spec shared-slice-read-if1 sub-read-whole part-read-whole-start part-read-whole-end read-whole-requires enum-known-value cast-t15
-    returns returns-2 cast-t16 sub-t17 add-t18 enum-told returns-3 returns-4)
+    (tie.spec shared-slice-read-if1 sub-read-whole part-read-whole-start part-read-whole-end read-whole-requires enum-known-value cast-t15 returns returns-2
+    cast-t16 sub-t17 add-t18 enum-told returns-3 returns-4)

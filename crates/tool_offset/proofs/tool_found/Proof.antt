@@ -75,6 +75,4 @@ returns c =
     )
 
 pub tool-found-spec : {M : Type 1} → statement M
-tool-found-spec =
-    tie.close
-    (tie.spec sizes-of-requires cast-ev difference-of-requires decision-of-requires calibrated-ok-requires wear-left-requires returns)
+tool-found-spec = tie.close (tie.spec sizes-of-requires cast-ev difference-of-requires decision-of-requires calibrated-ok-requires wear-left-requires returns)

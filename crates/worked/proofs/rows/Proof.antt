@@ -52,5 +52,6 @@ returns-2 c = search needs
 
 pub rows-spec : {M : Type 1} → statement M
 rows-spec =
-    tie.close (tie.spec Inv-loop μ-loop loop-holds find-requires sub-row part-row-start part-row-end row-requires same-length returns add-at loop-less
-    loop-again same-length-2 returns-2)
+    tie.close
+    (tie.spec Inv-loop μ-loop loop-holds find-requires sub-row part-row-start part-row-end row-requires same-length returns add-at loop-less loop-again
+    same-length-2 returns-2)

@@ -24,5 +24,4 @@ returns-2 : tie.Need-returns-2
 returns-2 c = search needs
 
 pub refused-spec : {M : Type 1} → statement M
-refused-spec =
-    tie.close (tie.spec slice-aggregate-say say-requires returns wrong-job-requires returns-2)
+refused-spec = tie.close (tie.spec slice-aggregate-say say-requires returns wrong-job-requires returns-2)

@@ -42,5 +42,6 @@ returns-2 c = search needs
 
 pub read-fields-spec : {M : Type 1} → statement M
 read-fields-spec =
-    tie.close (tie.spec Inv-loop μ-loop no-fields-requires returns loop-holds shared-slice-read-with-byte with-byte-requires add-i loop-less
-    loop-again ended-requires returns-2)
+    tie.close
+    (tie.spec Inv-loop μ-loop no-fields-requires returns loop-holds shared-slice-read-with-byte with-byte-requires add-i loop-less loop-again ended-requires
+    returns-2)
