@@ -12,16 +12,16 @@ difference c =
 runs : (c : tie.Start) → Runs (difference c)
 runs c = run (difference c) tt (search)
 
+returns : tie.Need-returns
+returns c =
+    let s = c .before .before .before .before in
+    rw (runs s .value) (refl, omega (arith, sized (difference s)))
+
 sub-result : tie.Need-sub-result
 sub-result c = search (runs (c .before .before) .asks)
 
 sub-result-2 : tie.Need-sub-result-2
 sub-result-2 c = search (runs (c .before .before .before .before) .asks)
-
-returns : tie.Need-returns
-returns c =
-    let s = c .before .before .before .before in
-    rw (runs s .value) (refl, omega (arith, sized (difference s)))
 
 pub difference-of-spec : {M : Type 1} → statement M
 difference-of-spec = tie.close (tie.spec sub-result sub-result-2 returns)

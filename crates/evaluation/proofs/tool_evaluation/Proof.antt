@@ -10,16 +10,6 @@ branch-number-requires c κs = search needs
 verdict-of-requires : tie.Need-verdict-of-requires
 verdict-of-requires c κs = search needs
 
-cast-t8 : tie.Need-cast-t8
-cast-t8 c =
-    let s = c .before .before .before .before .before .before .before in
-    narrowed (s .args .f .deviation) (s .pre .deviation) .fits
-
-cast-t9 : tie.Need-cast-t9
-cast-t9 c =
-    let s = c .before .before .before .before .before .before .before .before .before in
-    narrowed (s .args .f .decision .correction) (s .pre .decision .correction) .fits
-
 returns : tie.Need-returns
 returns c =
     let d = c .before .before in
@@ -34,6 +24,16 @@ returns c =
       narrowed (f .decision .correction) (s .pre .decision .correction) .value,
       read (f .deviation) (v .before .struct-told .given .1 .1 .1 .0 .1),
     )
+
+cast-t8 : tie.Need-cast-t8
+cast-t8 c =
+    let s = c .before .before .before .before .before .before .before in
+    narrowed (s .args .f .deviation) (s .pre .deviation) .fits
+
+cast-t9 : tie.Need-cast-t9
+cast-t9 c =
+    let s = c .before .before .before .before .before .before .before .before .before in
+    narrowed (s .args .f .decision .correction) (s .pre .decision .correction) .fits
 
 pub tool-evaluation-spec : {M : Type 1} → statement M
 tool-evaluation-spec = tie.close (tie.spec branch-number-requires verdict-of-requires cast-t8 cast-t9 returns)

@@ -37,15 +37,15 @@ twice c = mul (lit (pos 2)) (bound (c .difference-of .result) 40000000 (c .diffe
 runs : (c : tie.After-difference-of) → Runs (twice c)
 runs c = run (twice c) tt (search)
 
-mul-result : tie.Need-mul-result
-mul-result c = search (runs c .asks)
-
 returns-2 : tie.Need-returns-2
 returns-2 c =
     let e = c .before .before in
     let l = e .before .before in
     rw (passed (corrected (l .before)) (l .if1 .left), e .enum-told .given .1, runs c .value)
     (ap (λ (d : ℤ). pos 2 *ℤ d) (c .difference-of .ensures .0), omega (arith, sized (twice c)))
+
+mul-result : tie.Need-mul-result
+mul-result c = search (runs c .asks)
 
 -- ---- a pair: its shift
 shift-on-requires : tie.Need-shift-on-requires
@@ -68,4 +68,6 @@ returns-3 c =
     (shift ∙ sym (a-pair (s .args .k .form) _ _ (c .before .match .keys2)), rw shift (shift-size z (s .pre) (s .args .n)))
 
 pub growth-of-spec : {M : Type 1} → statement M
-growth-of-spec = tie.close (tie.spec corrects-on-requires returns enum-told difference-of-requires mul-result shift-on-requires returns-2 returns-3)
+growth-of-spec =
+    tie.close
+    (tie.spec corrects-on-requires returns enum-told difference-of-requires mul-result shift-on-requires returns-2 returns-3)

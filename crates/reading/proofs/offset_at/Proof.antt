@@ -8,15 +8,6 @@ use Rattle.reading.proofs.offset_at.Tie as tie
 known : (s : tie.Start) → Known (s .args .area .now) offsets (s .args .n)
 known s = record { whole = s .pre .0; named-in = or-zero 4 (s .args .n) (s .pre .1); fits = s .fits .n }
 
-number-at-requires : tie.Need-number-at-requires
-number-at-requires c κs = asked (known c) 0 (omega arith)
-
-number-at-requires-2 : tie.Need-number-at-requires-2
-number-at-requires-2 c κs = asked (known (c .before)) 1 (omega arith)
-
-number-at-requires-3 : tie.Need-number-at-requires-3
-number-at-requires-3 c κs = asked (known (c .before .before)) 2 (omega arith)
-
 returns : tie.Need-returns
 returns c =
     let n2 = c .before in
@@ -28,6 +19,15 @@ returns c =
       given (known s) 2 (c .number-at3 .ok) (c .number-at3 .ensures),
     )
     (held-at (known s))
+
+number-at-requires : tie.Need-number-at-requires
+number-at-requires c κs = asked (known c) 0 (omega arith)
+
+number-at-requires-2 : tie.Need-number-at-requires-2
+number-at-requires-2 c κs = asked (known (c .before)) 1 (omega arith)
+
+number-at-requires-3 : tie.Need-number-at-requires-3
+number-at-requires-3 c κs = asked (known (c .before .before)) 2 (omega arith)
 
 pub offset-at-spec : {M : Type 1} → statement M
 offset-at-spec = tie.close (tie.spec number-at-requires number-at-requires-2 number-at-requires-3 returns)

@@ -12,6 +12,27 @@ use Rattle.reading.proofs.probe_at.Tie as tie
 known : (s : tie.Start) → Known (s .args .area .now) probes (s .args .n)
 known s = record { whole = s .pre .0; named-in = or-zero 3 (s .args .n) (s .pre .1); fits = s .fits .n }
 
+returns : tie.Need-returns
+returns c =
+    let n7 = c .before in
+    let n6 = n7 .before in
+    let n5 = n6 .before in
+    let n4 = n5 .before in
+    let n3 = n4 .before in
+    let n2 = n3 .before in
+    let n1 = n2 .before in
+    let s = n1 .before in
+    rw (
+      given (known s) 0 (n1 .number-at .ok) (n1 .number-at .ensures),
+      given (known s) 1 (n2 .number-at2 .ok) (n2 .number-at2 .ensures),
+      given (known s) 2 (n3 .number-at3 .ok) (n3 .number-at3 .ensures),
+      given (known s) 3 (n4 .number-at4 .ok) (n4 .number-at4 .ensures),
+      given (known s) 4 (n5 .number-at5 .ok) (n5 .number-at5 .ensures),
+      given (known s) 5 (n6 .number-at6 .ok) (n6 .number-at6 .ensures),
+      c .status-from .ensures ∙ ap statusFrom (given (known s) 6 (n7 .number-at7 .ok) (n7 .number-at7 .ensures)),
+    )
+    (held-at (known s))
+
 number-at-requires : tie.Need-number-at-requires
 number-at-requires c κs = asked (known c) 0 (omega arith)
 
@@ -35,27 +56,6 @@ number-at-requires-7 c κs = asked (known (c .before .before .before .before .be
 
 status-from-requires : tie.Need-status-from-requires
 status-from-requires c κs = search needs
-
-returns : tie.Need-returns
-returns c =
-    let n7 = c .before in
-    let n6 = n7 .before in
-    let n5 = n6 .before in
-    let n4 = n5 .before in
-    let n3 = n4 .before in
-    let n2 = n3 .before in
-    let n1 = n2 .before in
-    let s = n1 .before in
-    rw (
-      given (known s) 0 (n1 .number-at .ok) (n1 .number-at .ensures),
-      given (known s) 1 (n2 .number-at2 .ok) (n2 .number-at2 .ensures),
-      given (known s) 2 (n3 .number-at3 .ok) (n3 .number-at3 .ensures),
-      given (known s) 3 (n4 .number-at4 .ok) (n4 .number-at4 .ensures),
-      given (known s) 4 (n5 .number-at5 .ok) (n5 .number-at5 .ensures),
-      given (known s) 5 (n6 .number-at6 .ok) (n6 .number-at6 .ensures),
-      c .status-from .ensures ∙ ap statusFrom (given (known s) 6 (n7 .number-at7 .ok) (n7 .number-at7 .ensures)),
-    )
-    (held-at (known s))
 
 pub probe-at-spec : {M : Type 1} → statement M
 probe-at-spec =

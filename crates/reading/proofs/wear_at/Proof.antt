@@ -8,12 +8,6 @@ use Rattle.reading.proofs.wear_at.Tie as tie
 known : (s : tie.Start) → Known (s .args .area .now) tools (s .args .n)
 known s = record { whole = s .pre .0; named-in = or-zero 32 (s .args .n) (s .pre .1); fits = s .fits .n }
 
-number-at-requires : tie.Need-number-at-requires
-number-at-requires c κs = asked (known c) 0 (omega arith)
-
-number-at-requires-2 : tie.Need-number-at-requires-2
-number-at-requires-2 c κs = asked (known (c .before)) 1 (omega arith)
-
 returns : tie.Need-returns
 returns c =
     let n1 = c .before in
@@ -23,6 +17,12 @@ returns c =
       given (known s) 1 (c .number-at2 .ok) (c .number-at2 .ensures),
     )
     (held-at (known s))
+
+number-at-requires : tie.Need-number-at-requires
+number-at-requires c κs = asked (known c) 0 (omega arith)
+
+number-at-requires-2 : tie.Need-number-at-requires-2
+number-at-requires-2 c κs = asked (known (c .before)) 1 (omega arith)
 
 pub wear-at-spec : {M : Type 1} → statement M
 wear-at-spec = tie.close (tie.spec number-at-requires number-at-requires-2 returns)

@@ -87,6 +87,43 @@ upper c = let s = from1 c in raised-read s (s .args .a .limits .tul) (read (s .a
 lower : (c : tie.After-struct-told5) → let s = from2 c in toZ w64 (ofZ w64 (s .args .f .sizes .held .setpoint)) +ℤ toZ w64 (ofZ w64 (s .args .a .limits .tll)) ≡ raised s (s .args .a .limits .tll)
 lower c = let s = from2 c in raised-read s (s .args .a .limits .tll) (read (s .args .a .limits .tll) (c .struct-told5 .given .1 .1 .1 .1 .1 .1 .0 .1 .1 .1 .1 .1 .0 .1))
 
+returns : tie.Need-returns
+unfolding toolFilled
+returns c =
+    let n12 = c .before .before in
+    let n11 = n12 .before .before in
+    let n10 = n11 .before .before in
+    let n9 = n10 .before .before in
+    let n8 = n9 .before .before in
+    let n7 = n8 .before .before in
+    let n6 = n7 .before .before in
+    let n5 = n6 .before .before in
+    let n4 = n5 .before .before in
+    let n3 = n4 .before .before in
+    let n2 = n3 .before .before in
+    let n1 = n2 .before .before .before .before .before in
+    let z = n1 .before .before .before .before .before in
+    let s = z .before .before .before .before in
+    let small = sized s in
+    rw (
+      z .size-numbers .ensures,
+      s .pre .0,
+      read (s .args .f .ev) (z .before .struct-told .given .1 .1 .0 .1),
+      stored (raised s (s .args .a .limits .tul)) (small 0 (omega arith)) (rw (upper (n1 .before)) at (n1 .narrow .ensures)),
+      stored (raised s (s .args .a .limits .tll)) (small 1 (omega arith)) (rw (lower (n2 .before)) at (n2 .narrow2 .ensures)),
+      stored (s .args .f .decision .correction) (small 2 (omega arith)) (n3 .narrow3 .ensures),
+      stored (s .args .a .limits .tzl) (small 3 (omega arith)) (n4 .narrow4 .ensures),
+      stored (s .args .a .limits .tsa) (small 4 (omega arith)) (n5 .narrow5 .ensures),
+      stored (s .args .a .limits .tdif) (small 5 (omega arith)) (n6 .narrow6 .ensures),
+      stored (s .args .f .ev) (small 6 (omega arith)) (n7 .narrow7 .ensures),
+      stored (s .args .f .decision .mean) (small 7 (omega arith)) (n8 .narrow8 .ensures),
+      stored (s .args .a .tool) (small 8 (omega arith)) (n9 .narrow9 .ensures),
+      stored (s .args .a .k) (small 9 (omega arith)) (n10 .narrow10 .ensures),
+      stored (s .args .a .mv) (small 10 (omega arith)) (n11 .narrow11 .ensures),
+      stored (s .args .a .ev) (small 11 (omega arith)) (n12 .narrow12 .ensures),
+      stored (s .args .a .tool) (small 12 (omega arith)) (c .narrow13 .ensures),
+    )
+
 add-narrow : tie.Need-add-narrow
 add-narrow c = let s = from1 c in rw (upper c) (small-fits (raised s (s .args .a .limits .tul)) (sized s 0 (omega arith)))
 
@@ -171,47 +208,11 @@ narrow-requires-13 c κs = let s = from13 c in asked (s .args .a .tool) (sized s
 array-set-from-n-13 : tie.Need-array-set-from-n-13
 array-set-from-n-13 c = search needs
 
-returns : tie.Need-returns
-unfolding toolFilled
-returns c =
-    let n12 = c .before .before in
-    let n11 = n12 .before .before in
-    let n10 = n11 .before .before in
-    let n9 = n10 .before .before in
-    let n8 = n9 .before .before in
-    let n7 = n8 .before .before in
-    let n6 = n7 .before .before in
-    let n5 = n6 .before .before in
-    let n4 = n5 .before .before in
-    let n3 = n4 .before .before in
-    let n2 = n3 .before .before in
-    let n1 = n2 .before .before .before .before .before in
-    let z = n1 .before .before .before .before .before in
-    let s = z .before .before .before .before in
-    let small = sized s in
-    rw (
-      z .size-numbers .ensures,
-      s .pre .0,
-      read (s .args .f .ev) (z .before .struct-told .given .1 .1 .0 .1),
-      stored (raised s (s .args .a .limits .tul)) (small 0 (omega arith)) (rw (upper (n1 .before)) at (n1 .narrow .ensures)),
-      stored (raised s (s .args .a .limits .tll)) (small 1 (omega arith)) (rw (lower (n2 .before)) at (n2 .narrow2 .ensures)),
-      stored (s .args .f .decision .correction) (small 2 (omega arith)) (n3 .narrow3 .ensures),
-      stored (s .args .a .limits .tzl) (small 3 (omega arith)) (n4 .narrow4 .ensures),
-      stored (s .args .a .limits .tsa) (small 4 (omega arith)) (n5 .narrow5 .ensures),
-      stored (s .args .a .limits .tdif) (small 5 (omega arith)) (n6 .narrow6 .ensures),
-      stored (s .args .f .ev) (small 6 (omega arith)) (n7 .narrow7 .ensures),
-      stored (s .args .f .decision .mean) (small 7 (omega arith)) (n8 .narrow8 .ensures),
-      stored (s .args .a .tool) (small 8 (omega arith)) (n9 .narrow9 .ensures),
-      stored (s .args .a .k) (small 9 (omega arith)) (n10 .narrow10 .ensures),
-      stored (s .args .a .mv) (small 10 (omega arith)) (n11 .narrow11 .ensures),
-      stored (s .args .a .ev) (small 11 (omega arith)) (n12 .narrow12 .ensures),
-      stored (s .args .a .tool) (small 12 (omega arith)) (c .narrow13 .ensures),
-    )
-
 pub tool-numbers-spec : {M : Type 1} → statement M
 tool-numbers-spec =
     tie.close
-    (tie.spec size-numbers-requires add-narrow narrow-requires array-set-from-n add-narrow-2 narrow-requires-2 array-set-from-n-2 narrow-requires-3
-    array-set-from-n-3 narrow-requires-4 array-set-from-n-4 narrow-requires-5 array-set-from-n-5 narrow-requires-6 array-set-from-n-6 narrow-requires-7
-    array-set-from-n-7 narrow-requires-8 array-set-from-n-8 narrow-requires-9 array-set-from-n-9 narrow-requires-10 array-set-from-n-10 narrow-requires-11
-    array-set-from-n-11 narrow-requires-12 array-set-from-n-12 narrow-requires-13 array-set-from-n-13 returns)
+    (tie.spec
+    size-numbers-requires add-narrow narrow-requires array-set-from-n add-narrow-2 narrow-requires-2 array-set-from-n-2 narrow-requires-3
+    array-set-from-n-3 narrow-requires-4 array-set-from-n-4 narrow-requires-5 array-set-from-n-5 narrow-requires-6 array-set-from-n-6
+    narrow-requires-7 array-set-from-n-7 narrow-requires-8 array-set-from-n-8 narrow-requires-9 array-set-from-n-9 narrow-requires-10
+    array-set-from-n-10 narrow-requires-11 array-set-from-n-11 narrow-requires-12 array-set-from-n-12 narrow-requires-13 array-set-from-n-13 returns)

@@ -18,8 +18,8 @@ use Rattle.rules.specs.EvaluationLaws.{refusal-small}
 use Rattle.area.specs.Table.{held}
 use Rattle.rules.specs.Measuring.{lent}
 use Rattle.measuring.specs.ReplyLaws.{Way, toolWay, wrong-area, no-room, refused, done}
-use Rattle.tool_measuring.specs.Outcome.{ToolEvaluated}
-use Rattle.tool_measuring.specs.declared.ToolOutcome.{ToolOutcome}
+use Rattle.tool_outcome.specs.Outcome.{ToolEvaluated}
+use Rattle.tool_outcome.specs.declared.ToolOutcome.{ToolOutcome}
 use Rattle.tool_measuring.proofs.measure_tool.Statement.{statement}
 use Rattle.tool_measuring.proofs.measure_tool.Tie as tie
 

@@ -5,8 +5,8 @@ use Rattle.rules.specs.Results.{toolEvaluation}
 use Rattle.rules.specs.Calls.{Call, measureTool}
 use Rattle.area.specs.CalledLaws.{call-wrong, call-refused, call-done}
 use Rattle.rules.specs.Measuring.{lent}
-use Rattle.tool_measuring.specs.Outcome.{ToolEvaluated}
-use Rattle.tool_measuring.specs.declared.ToolOutcome.{ToolOutcome}
+use Rattle.tool_outcome.specs.Outcome.{ToolEvaluated}
+use Rattle.tool_outcome.specs.declared.ToolOutcome.{ToolOutcome}
 use Rattle.tool_measuring.proofs.tool_line.Statement.{statement}
 use Rattle.tool_measuring.proofs.tool_line.Tie as tie
 

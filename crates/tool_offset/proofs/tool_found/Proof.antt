@@ -38,6 +38,23 @@ module _ (c : tie.After-struct-told) where
   ev-size : natAbs (first .args .r .ev) ≤ 32768
   ev-size = value-size (first .args .r .ev) (small-value (first .args .r .ev) (c .struct-told .given .1 .0 .1))
 
+returns : tie.Need-returns
+returns c =
+    let k = c .before .before in
+    let dc = k .before in
+    let t2 = dc .before in
+    let dv = t2 .before in
+    let v = dv .before in
+    let z = v .before .before .before in
+    let s = start z in
+    let d = dv .difference-of in
+    let decision = rw (read-as w16 (s .args .r .mean) (t2 .struct-told2 .given .1 .1 .0 .1), read (d .result) (d .ok)) at (dc .decision-of .ensures .0) in
+    let wear = rw (read (dc .decision-of .result .correction) (c .before .struct-told3 .given .1 .0 .1)) at (c .wear-left .ensures) in
+    rw (ev v .value, read (d .result) (d .ok), read (c .wear-left .result) (c .wear-left .ok)) (
+      found-is (s .args .r) (s .args .a) (s .pre .0) (k .calibrated-ok .ensures) (z .sizes-of .ensures) (rw (ev v .value) at (d .ensures .0)) decision wear,
+      record { sizes = small z; ev = ev-size v; deviation = omega (arith, d .ensures .1); decision = dc .decision-of .ensures .1 },
+    )
+
 cast-ev : tie.Need-cast-ev
 cast-ev c = ev c .fits
 
@@ -57,22 +74,7 @@ wear-left-requires c κs =
     let d = c .before .before .decision-of in
     rw (read (d .result .correction) (c .struct-told3 .given .1 .0 .1)) (d .ensures .1 .correction)
 
-returns : tie.Need-returns
-returns c =
-    let k = c .before .before in
-    let dc = k .before in
-    let t2 = dc .before in
-    let dv = t2 .before in
-    let v = dv .before in
-    let z = v .before .before .before in
-    let s = start z in
-    let d = dv .difference-of in
-    let decision = rw (read-as w16 (s .args .r .mean) (t2 .struct-told2 .given .1 .1 .0 .1), read (d .result) (d .ok)) at (dc .decision-of .ensures .0) in
-    let wear = rw (read (dc .decision-of .result .correction) (c .before .struct-told3 .given .1 .0 .1)) at (c .wear-left .ensures) in
-    rw (ev v .value, read (d .result) (d .ok), read (c .wear-left .result) (c .wear-left .ok)) (
-      found-is (s .args .r) (s .args .a) (s .pre .0) (k .calibrated-ok .ensures) (z .sizes-of .ensures) (rw (ev v .value) at (d .ensures .0)) decision wear,
-      record { sizes = small z; ev = ev-size v; deviation = omega (arith, d .ensures .1); decision = dc .decision-of .ensures .1 },
-    )
-
 pub tool-found-spec : {M : Type 1} → statement M
-tool-found-spec = tie.close (tie.spec sizes-of-requires cast-ev difference-of-requires decision-of-requires calibrated-ok-requires wear-left-requires returns)
+tool-found-spec =
+    tie.close
+    (tie.spec sizes-of-requires cast-ev difference-of-requires decision-of-requires calibrated-ok-requires wear-left-requires returns)

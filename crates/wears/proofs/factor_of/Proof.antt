@@ -30,6 +30,9 @@ twice c = mul (lit (pos 2)) (bound (c .sign-of .result) 1 (small c) tt)
 runs : (c : tie.After-sign-of) → Runs (twice c)
 runs c = run (twice c) tt (search)
 
+returns : tie.Need-returns
+returns c = rw (c .before .enum-told .given .1) (runs c .value ∙ ap (λ (z : ℤ). pos 2 *ℤ z) (sign-is c))
+
 mul-result : tie.Need-mul-result
 mul-result c = search (runs c .asks)
 
@@ -44,9 +47,6 @@ enum-told-3 c = search needs
 
 side-of-requires-2 : tie.Need-side-of-requires-2
 side-of-requires-2 c κs = search needs
-
-returns : tie.Need-returns
-returns c = rw (c .before .enum-told .given .1) (runs c .value ∙ ap (λ (z : ℤ). pos 2 *ℤ z) (sign-is c))
 
 returns-2 : tie.Need-returns-2
 returns-2 c = rw (c .before .enum-told2 .given .1) (read (c .side-of .result) (c .side-of .ok) ∙ c .side-of .ensures)

@@ -5,21 +5,21 @@ use Rattle.signed.specs.CodeLaws.{widened}
 use Rattle.wears.proofs.wear_on.Statement.{statement}
 use Rattle.wears.proofs.wear_on.Tie as tie
 
-cast-result : tie.Need-cast-result
-cast-result c = widened w32 w64 (c .before .before .before .args .w .length) tt (c .struct-told .given .1 .0 .1) .fits
-
 returns : tie.Need-returns
 returns c =
     let w = c .before .before .before .args .w in
     rw (widened w32 w64 (w .length) tt (c .struct-told .given .1 .0 .1) .value, c .before .before .if1 .taken) (refl, natAbs-le (w .length) (c .struct-told .given .1 .0 .1))
 
-cast-result-2 : tie.Need-cast-result-2
-cast-result-2 c = widened w32 w64 (c .before .before .before .args .w .radius) tt (c .struct-told2 .given .0 .1) .fits
-
 returns-2 : tie.Need-returns-2
 returns-2 c =
     let w = c .before .before .before .args .w in
     rw (widened w32 w64 (w .radius) tt (c .struct-told2 .given .0 .1) .value, c .before .before .if1 .left) (refl, natAbs-le (w .radius) (c .struct-told2 .given .0 .1))
+
+cast-result : tie.Need-cast-result
+cast-result c = widened w32 w64 (c .before .before .before .args .w .length) tt (c .struct-told .given .1 .0 .1) .fits
+
+cast-result-2 : tie.Need-cast-result-2
+cast-result-2 c = widened w32 w64 (c .before .before .before .args .w .radius) tt (c .struct-told2 .given .0 .1) .fits
 
 pub wear-on-spec : {M : Type 1} → statement M
 wear-on-spec = tie.close (tie.spec cast-result returns cast-result-2 returns-2)

@@ -18,8 +18,8 @@ use Rattle.rules.specs.EvaluationLaws.{refusal-small}
 use Rattle.area.specs.Table.{held}
 use Rattle.rules.specs.Measuring.{lent}
 use Rattle.measuring.specs.ReplyLaws.{Way, zeroWay, wrong-area, no-room, refused, done}
-use Rattle.zero_measuring.specs.Outcome.{ZeroEvaluated}
-use Rattle.zero_measuring.specs.declared.ZeroOutcome.{ZeroOutcome}
+use Rattle.zero_outcome.specs.Outcome.{ZeroEvaluated}
+use Rattle.zero_outcome.specs.declared.ZeroOutcome.{ZeroOutcome}
 use Rattle.zero_measuring.proofs.measure_zero.Statement.{statement}
 use Rattle.zero_measuring.proofs.measure_zero.Tie as tie
 

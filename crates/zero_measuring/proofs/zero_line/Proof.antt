@@ -5,8 +5,8 @@ use Rattle.rules.specs.Results.{zeroEvaluation}
 use Rattle.rules.specs.Calls.{Call, measureZero}
 use Rattle.area.specs.CalledLaws.{call-wrong, call-refused, call-done}
 use Rattle.rules.specs.Measuring.{lent}
-use Rattle.zero_measuring.specs.Outcome.{ZeroEvaluated}
-use Rattle.zero_measuring.specs.declared.ZeroOutcome.{ZeroOutcome}
+use Rattle.zero_outcome.specs.Outcome.{ZeroEvaluated}
+use Rattle.zero_outcome.specs.declared.ZeroOutcome.{ZeroOutcome}
 use Rattle.zero_measuring.proofs.zero_line.Statement.{statement}
 use Rattle.zero_measuring.proofs.zero_line.Tie as tie
 
