@@ -6,7 +6,7 @@ use Prim.Native.Nat.{ℕ}
 use lib.Dec.{eqb}
 use lib.IntN.{ℤ}
 use lib.ListN.{length}
-use Rattle.package.specs.declared.Calibration.{Calibration}
+use Rattle.package.specs.declared.arguments.Calibration.{Calibration}
 use Rattle.arguments.specs.Arguments.{toolOf, zeroOf}
 use Rattle.area.specs.Called.{wholeArea}
 use Rattle.measuring.specs.Reply.{Reply, reply, undecided, toolReplied, zeroReplied}

@@ -11,8 +11,8 @@ use measuring::Decided;
 use measuring::not_decided;
 use memory::load;
 use memory::save;
-use package::Calibration;
-use package::Status;
+use package::arguments::Calibration;
+use package::records::Status;
 use settings::fresh;
 use settings::set_empirical;
 use settings::set_offset;
@@ -21,7 +21,7 @@ use tool_measuring::measure_tool;
 use zero_measuring::measure_zero;
 ghost use mathlib.Core.Path.{_≡_};
 ghost use Rattle.rules.specs.Calls.{setEmpirical, setWear, setOffset, calibrate, load};
-ghost use Rattle.area.specs.Called.{left, called, freshCalled};
+ghost use Rattle.area.specs.Called.{unmeasured, called, freshCalled};
 ghost use Rattle.calibrating.specs.StatusRead.{statusCalled};
 ghost use Rattle.memory.specs.Saved.{savedAs, saveCalled};
 ghost use Rattle.measuring.specs.Reply.{reply};
@@ -38,7 +38,7 @@ const ZERO_NUMBERS: usize = 13;
 // Writes the fresh package, every record 0.
 #[no_mangle]
 pub extern "C" fn mezhtolik_fresh(area: &mut [i32]) -> u32
-    ensures { λ r. ⌜ left r (now (area .exit)) ≡ freshCalled (now (area .entry)) ⌝ }
+    ensures { λ r. ⌜ unmeasured r (now (area .exit)) ≡ freshCalled (now (area .entry)) ⌝ }
 {
     fresh(area)
 }
@@ -46,7 +46,7 @@ pub extern "C" fn mezhtolik_fresh(area: &mut [i32]) -> u32
 // Replaces one empirical value.
 #[no_mangle]
 pub extern "C" fn mezhtolik_set_empirical(area: &mut [i32], ev: i64, value: i64) -> u32
-    ensures { λ r. ⌜ left r (now (area .exit)) ≡ called (now (area .entry)) (setEmpirical ev value) ⌝ }
+    ensures { λ r. ⌜ unmeasured r (now (area .exit)) ≡ called (now (area .entry)) (setEmpirical ev value) ⌝ }
 {
     set_empirical(area, ev, value)
 }
@@ -54,7 +54,7 @@ pub extern "C" fn mezhtolik_set_empirical(area: &mut [i32], ev: i64, value: i64)
 // Replaces one tool's two wears.
 #[no_mangle]
 pub extern "C" fn mezhtolik_set_wear(area: &mut [i32], tool: i64, radius: i64, length: i64) -> u32
-    ensures { λ r. ⌜ left r (now (area .exit)) ≡ called (now (area .entry)) (setWear tool radius length) ⌝ }
+    ensures { λ r. ⌜ unmeasured r (now (area .exit)) ≡ called (now (area .entry)) (setWear tool radius length) ⌝ }
 {
     set_wear(area, tool, radius, length)
 }
@@ -68,7 +68,7 @@ pub extern "C" fn mezhtolik_set_offset(
     v2: i64,
     v3: i64,
 ) -> u32
-    ensures { λ r. ⌜ left r (now (area .exit)) ≡ called (now (area .entry)) (setOffset offset v1 v2 v3) ⌝ }
+    ensures { λ r. ⌜ unmeasured r (now (area .exit)) ≡ called (now (area .entry)) (setOffset offset v1 v2 v3) ⌝ }
 {
     set_offset(area, offset, v1, v2, v3)
 }
@@ -85,7 +85,7 @@ pub extern "C" fn mezhtolik_calibrate(
     tzl: i64,
     tsa: i64,
 ) -> u32
-    ensures { λ r. ⌜ left r (now (area .exit)) ≡ called (now (area .entry)) (calibrate (calibration probe axis direction setpoint raw tzl tsa)) ⌝ }
+    ensures { λ r. ⌜ unmeasured r (now (area .exit)) ≡ called (now (area .entry)) (calibrate (calibration probe axis direction setpoint raw tzl tsa)) ⌝ }
 {
     let a = Calibration {
         probe,
@@ -148,7 +148,7 @@ pub extern "C" fn mezhtolik_measure_zero(
 // Replaces all empirical and mean values by those of a block of 80 bytes.
 #[no_mangle]
 pub extern "C" fn mezhtolik_load(area: &mut [i32], bytes: &[u8]) -> u32
-    ensures { λ r. ⌜ left r (now (area .exit)) ≡ called (now (area .entry)) (load (now (bytes .entry))) ⌝ }
+    ensures { λ r. ⌜ unmeasured r (now (area .exit)) ≡ called (now (area .entry)) (load (now (bytes .entry))) ⌝ }
 {
     load(area, bytes)
 }

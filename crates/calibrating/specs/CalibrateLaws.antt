@@ -6,7 +6,7 @@ use native.Mathlib.Omega.{arith}
 use lib.IntN.{ℤ, pos}
 use lib.ListN.{length, getD, set, take, length-set, drop-of-length-le}
 use lib.Seq.{set-split, take-set-lt, getD-take}
-use Rattle.package.specs.declared.Calibration.{Calibration}
+use Rattle.package.specs.declared.arguments.Calibration.{Calibration}
 use Rattle.signed.specs.RangeLaws.{or-zero}
 use Rattle.rules.specs.Refusals.{first}
 use Rattle.rules.specs.RefusalLaws.{first-sooner}
@@ -14,13 +14,13 @@ use Rattle.rules.specs.Stores.{probes, at}
 use Rattle.rules.specs.Probes.{placeOf}
 use Rattle.rules.specs.Calibration.{calibrationArguments, calibratedWith, calibratedProbe}
 use Rattle.rules.specs.Calls.{calibrate, rules}
-use Rattle.package.specs.declared.Calibrated.{Calibrated}
+use Rattle.package.specs.declared.found.Calibrated.{Calibrated}
 use Rattle.probes.specs.CalibratedLaws.{arguments, place-passed, directionLeft, withDirection, probe-done, status-done}
 use Rattle.layout.specs.Layout.{end, recordOf, recordPut}
 use Rattle.layout.specs.LayoutLaws.{record-number, number-again, number-back}
 use Rattle.area.specs.Table.{areaLength, sectionOf, statusFrom, probeFrom, recordFrom, held}
 use Rattle.area.specs.RecordLaws.{triggers-are, section-in, at-held}
-use Rattle.area.specs.Called.{left, called}
+use Rattle.area.specs.Called.{unmeasured, called}
 use Rattle.area.specs.CalledLaws.{call-refused, call-done}
 
 -- the 7 numbers of a record with a trigger and a status replaced
@@ -30,7 +30,7 @@ with-two zs at t s long low =
     set-split (set zs at t) 6 s (omega arith) ∙ rw (take-set-lt 6 zs at t low, drop-of-length-le (set zs at t) {i = 7} (omega arith))
 
 module _ (area : List ℤ) (whole : length area ≡ areaLength) (a : Calibration) where
-  pub arguments-refused : (n : ℕ) → n ≡ first (calibrationArguments a) → (n ≡ 0 → ⊥) → left n area ≡ called area (calibrate a)
+  pub arguments-refused : (n : ℕ) → n ≡ first (calibrationArguments a) → (n ≡ 0 → ⊥) → unmeasured n area ≡ called area (calibrate a)
   arguments-refused n e z =
       let some : n ≡ suc (n - 1) = omega (arith, z) in
       call-refused area (calibrate a) whole (some ∙ sym (first-sooner (calibrationArguments a) _ (n - 1) (sym e ∙ some))) z
@@ -68,13 +68,13 @@ module _ (area : List ℤ) (whole : length area ≡ areaLength) (a : Calibration
     pub status-small : found .refusal ≡ 0 → found .status < 64
     status-small e = rw found-is (status-done (at (held area) probes (a .probe)) a passed (ap (λ (c : Calibrated). c .refusal) (sym found-is) ∙ e))
 
-    pub found-refused : (found .refusal ≡ 0 → ⊥) → left (found .refusal) area ≡ called area (calibrate a)
+    pub found-refused : (found .refusal ≡ 0 → ⊥) → unmeasured (found .refusal) area ≡ called area (calibrate a)
     found-refused z = call-refused area (calibrate a) whole (ap (λ (c : Calibrated). c .refusal) found-is ∙ refusal-is) z
 
     -- what it writes
     by-found : found .refusal ≡ 0 → {once after : List ℤ} → once ≡ recordPut (sectionOf probes) area (a .probe) (set numbers j (found .trigger))
         → after ≡ recordPut (sectionOf probes) once (a .probe) (set (recordOf (sectionOf probes) once (a .probe)) 6 (pos (found .status)))
-        → left 0 after ≡ called area (calibrate a)
+        → unmeasured 0 after ≡ called area (calibrate a)
     by-found z {once} {after} e f =
         let p = sectionOf probes in
         let n = arguments a passed .probe in
@@ -93,5 +93,5 @@ module _ (area : List ℤ) (whole : length area ≡ areaLength) (a : Calibration
 
     pub found-done : {c : Calibrated} → c ≡ found → c .refusal ≡ 0 → {once after : List ℤ} → once ≡ recordPut (sectionOf probes) area (a .probe) (set numbers j (c .trigger))
         → after ≡ recordPut (sectionOf probes) once (a .probe) (set (recordOf (sectionOf probes) once (a .probe)) 6 (pos (c .status)))
-        → left 0 after ≡ called area (calibrate a)
+        → unmeasured 0 after ≡ called area (calibrate a)
     found-done q z e f = by-found (rw q at z) (rw q at e) (rw q at f)

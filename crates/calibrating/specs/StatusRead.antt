@@ -3,7 +3,7 @@ use mathlib.Core.Bool.{cond}
 use mathlib.Core.List.{List}
 use Prim.Native.Nat.{ℕ}
 use lib.IntN.{ℤ}
-use Rattle.package.specs.declared.Status.{Status}
+use Rattle.package.specs.declared.records.Status.{Status}
 use Rattle.rules.specs.Status.{statusRead}
 use Rattle.area.specs.Table.{held}
 use Rattle.area.specs.Called.{wholeArea}

@@ -5,10 +5,10 @@ use area::WRONG_AREA;
 use area::status_from;
 use layout::number_at;
 use layout::put_number;
-use package::Calibration;
-use package::DONE;
-use package::NO_SUCH_NUMBER;
-use package::Status;
+use package::arguments::Calibration;
+use package::records::Status;
+use package::refusals::DONE;
+use package::refusals::NO_SUCH_NUMBER;
 use probes::calibrate_direction;
 use probes::calibration_refusal;
 use probes::place_of;
@@ -16,12 +16,12 @@ use probes::status_answer;
 use signed::in_range;
 ghost use mathlib.Core.Path.{_≡_};
 ghost use Rattle.rules.specs.Calls.{calibrate};
-ghost use Rattle.area.specs.Called.{left, called};
+ghost use Rattle.area.specs.Called.{unmeasured, called};
 ghost use Rattle.calibrating.specs.StatusRead.{noStatus, statusCalled};
 
 // Calibrates one direction of a probe.
 pub fn calibrate(area: &mut [i32], a: Calibration) -> u32
-    ensures { λ r. ⌜ left r (now (area .exit)) ≡ called (now (area .entry)) (calibrate a) ⌝ }
+    ensures { λ r. ⌜ unmeasured r (now (area .exit)) ≡ called (now (area .entry)) (calibrate a) ⌝ }
 {
     if area.len() != AREA {
         return WRONG_AREA;
@@ -61,7 +61,7 @@ pub fn probe_status(area: &[i32], probe: i64) -> Status
     if area.len() != AREA {
         return no_status(WRONG_AREA);
     }
-    if !in_range(probe, 1, package::PROBES) {
+    if !in_range(probe, 1, package::limits::PROBE_COUNT) {
         return no_status(NO_SUCH_NUMBER);
     }
     status_answer(status_from(number_at(area, PROBES, probe, 6)))

@@ -8,8 +8,8 @@ use lib.Signed.{_≤ℤ_}
 use Rattle.signed.specs.Differences.{ints, parts}
 use Rattle.signed.specs.Ranges.{minus}
 use Rattle.signed.specs.RangeLaws.{within-is}
-use Rattle.package.specs.declared.Decision.{Decision}
-use Rattle.package.specs.declared.Found.{Found}
+use Rattle.package.specs.declared.found.Decision.{Decision}
+use Rattle.package.specs.declared.found.Found.{Found}
 use Rattle.rules.specs.Stores.{valueRange}
 use Rattle.sizes.specs.SizeLaws.{SizesSmall}
 

@@ -1,11 +1,11 @@
 // What a measurement comes to. Document 01, 'Tolerance, mean, correction' and 'Zero offset kinds'.
-use package::Evaluation;
-use package::Found;
-use package::Held;
-use package::IN_TOLERANCE;
-use package::Sizes;
-use package::ToolMeasurement;
-use package::ZERO_BRANCH;
+use package::arguments::ToolMeasurement;
+use package::found::Evaluation;
+use package::found::Found;
+use package::found::Held;
+use package::found::IN_TOLERANCE;
+use package::found::Sizes;
+use package::found::ZERO_BRANCH;
 use tolerance::branch_number;
 use tolerance::verdict_of;
 ghost use mathlib.Core.Path.{_≡_};

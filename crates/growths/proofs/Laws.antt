@@ -4,11 +4,11 @@ use mathlib.Core.List.{[], _∷_}
 use denote.Enum.Declared.{tagOf}
 use types.Run.{OneOf}
 use lib.IntN.{pos}
-use Rattle.package.specs.declared.Form.{Form}
-use Rattle.package.specs.declared.Form.the-variants.{Double}
-use Rattle.package.specs.declared.Kind.{Kind}
-use Rattle.package.specs.declared.Probing.{Probing}
-use Rattle.package.proofs.Form.{the-type}
+use Rattle.package.specs.declared.found.Form.{Form}
+use Rattle.package.specs.declared.found.Form.the-variants.{Double}
+use Rattle.package.specs.declared.found.Kind.{Kind}
+use Rattle.package.specs.declared.arguments.Probing.{Probing}
+use Rattle.package.proofs.found.Form.{the-type}
 use Rattle.rules.specs.Zero.{correctedAxes}
 use Rattle.kinds.proofs.Laws.{not-double}
 

@@ -1,9 +1,9 @@
 // How a zero offset grows on its axes. Document 01, 'Zero offset kinds'.
 use evaluation::difference_of;
-use package::Form;
-use package::Kind;
-use package::Probing;
-use package::Sizes;
+use package::arguments::Probing;
+use package::found::Form;
+use package::found::Kind;
+use package::found::Sizes;
 use signed::same;
 ghost use mathlib.Core.Path.{_≡_};
 ghost use Prim.Native.Nat.{_≤_};
@@ -28,8 +28,8 @@ fn shift_on(s: Sizes, n: i64) -> i64
     ensures { λ r. ⌜ r ≡ pairIn s n .shift ⌝ }
 {
     match n {
-        1 => s.first.shift,
-        2 => s.second.shift,
+        1 => s.abscissa.shift,
+        2 => s.ordinate.shift,
         _ => 0,
     }
 }

@@ -4,7 +4,7 @@ use Prim.Native.Nat.{ℕ}
 use lib.IntN.{ℤ}
 use Rattle.text.specs.Pieces.{comma, lineFeed}
 use Rattle.decimals.specs.Decimals.{decimal, signedDecimal}
-use Rattle.package.specs.declared.Evaluation.{Evaluation}
+use Rattle.package.specs.declared.found.Evaluation.{Evaluation}
 use Rattle.job_answers.specs.declared.Row.{Row}
 
 -- the answer of line n

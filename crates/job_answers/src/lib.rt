@@ -2,7 +2,7 @@
 use decimals::put_byte;
 use decimals::put_number;
 use decimals::put_whole;
-use package::Evaluation;
+use package::found::Evaluation;
 use text::COMMA;
 use text::LINE_FEED;
 ghost use mathlib.Core.Path.{_≡_};

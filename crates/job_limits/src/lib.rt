@@ -1,8 +1,8 @@
 // Why a job does not run. Document 01, 'Alarm numbers'.
-use package::DONE;
-use package::EMPTY_JOB;
-use package::NO_ROOM;
-use package::WRONG_JOB;
+use package::refusals::DONE;
+use package::refusals::EMPTY_JOB;
+use package::refusals::NO_ROOM;
+use package::refusals::WRONG_JOB;
 use text::LINE_FEED;
 use text::count_lines;
 ghost use mathlib.Core.Path.{_≡_};

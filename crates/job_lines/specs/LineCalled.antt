@@ -3,13 +3,13 @@ use mathlib.Core.List.{List}
 use Prim.Native.Nat.{ℕ}
 use lib.IntN.{ℤ}
 use Rattle.job_text.specs.Lines.{Said, malformed, says}
-use Rattle.area.specs.Called.{Called, left, called}
+use Rattle.area.specs.Called.{Called, unmeasured, called}
 use Rattle.job_answers.specs.Answers.{row}
 use Rattle.job_answers.specs.declared.Row.{Row}
 
 -- "A line: 10 malformed or too long, else its operation's."
 abbrev pub lineCalled : List ℤ → Said → Called
-lineCalled area malformed = left 10 area
+lineCalled area malformed = unmeasured 10 area
 lineCalled area (says c) = called area c
 
 -- the answer of line n and the area after it

@@ -3,15 +3,15 @@ use kinds::Across;
 use kinds::both_pairs;
 use kinds::single_centre;
 use kinds::single_pair;
-use package::AXES;
-use package::Form;
-use package::Kind;
-use package::POSITION_LIMIT;
-use package::PROBES;
-use package::Probe;
-use package::Probing;
-use package::Raws;
-use package::Sizes;
+use package::arguments::Probing;
+use package::arguments::Raws;
+use package::found::Form;
+use package::found::Kind;
+use package::found::Sizes;
+use package::limits::AXIS_COUNT;
+use package::limits::POSITION_LIMIT;
+use package::limits::PROBE_COUNT;
+use package::records::Probe;
 use probes::calibrated_in;
 use signed::in_range;
 ghost use mathlib.Core.Path.{_≡_};
@@ -28,9 +28,9 @@ pub fn numbers_ok(k: Kind, a: Probing) -> bool
     ensures { λ r. ⌜ r ≡ numbersOk k a ⌝ }
 {
     let form = k.form;
-    let probe = in_range(a.probe, 1, PROBES);
+    let probe = in_range(a.probe, 1, PROBE_COUNT);
     match form {
-        Form::Plane => probe & (in_range(a.axis, 1, AXES) & in_range(a.direction, 0, 1)),
+        Form::Plane => probe & (in_range(a.axis, 1, AXIS_COUNT) & in_range(a.direction, 0, 1)),
         Form::Single => probe & in_range(a.axis, 1, 2),
         Form::Double => probe,
     }
@@ -87,7 +87,7 @@ pub fn calibrated_ok(x: Probe, k: Kind, a: Probing) -> bool
         Form::Single => pair_calibrated(x, single_pair(k, a)),
         Form::Double => {
             let both = both_pairs(k, a);
-            pair_calibrated(x, both.first) & pair_calibrated(x, both.second)
+            pair_calibrated(x, both.abscissa) & pair_calibrated(x, both.ordinate)
         }
     }
 }
@@ -97,8 +97,8 @@ fn width_on(s: Sizes, n: i64) -> i64
     ensures { λ r. ⌜ r ≡ pairIn s n .width ⌝ }
 {
     match n {
-        1 => s.first.width,
-        2 => s.second.width,
+        1 => s.abscissa.width,
+        2 => s.ordinate.width,
         _ => 0,
     }
 }
@@ -111,6 +111,6 @@ pub fn widths_ok(k: Kind, a: Probing, s: Sizes) -> bool
     match form {
         Form::Plane => true,
         Form::Single => 1 <= width_on(s, a.axis),
-        Form::Double => (1 <= s.first.width) & (1 <= s.second.width),
+        Form::Double => (1 <= s.abscissa.width) & (1 <= s.ordinate.width),
     }
 }

@@ -10,9 +10,9 @@ use mir.Syntax.{w64}
 use mir.Val.{ofZ}
 use denote.Enum.Declared.{tagOf}
 use types.Run.{OneOf}
-use Rattle.package.specs.declared.Form.{Form}
-use Rattle.package.specs.declared.Form.the-variants.{Plane, Single, Double}
-use Rattle.package.proofs.Form.{the-type}
+use Rattle.package.specs.declared.found.Form.{Form}
+use Rattle.package.specs.declared.found.Form.the-variants.{Plane, Single, Double}
+use Rattle.package.proofs.found.Form.{the-type}
 use Rattle.rules.specs.Stores.{pick}
 use Rattle.rules.specs.Kinds.{byForm}
 

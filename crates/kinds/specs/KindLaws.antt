@@ -8,11 +8,11 @@ use lib.IntN.{ℤ, pos, negsuc}
 use Rattle.signed.specs.Ranges.{within}
 use Rattle.signed.specs.RangeLaws.{true-T, below-top}
 use Rattle.lists.specs.Each.{Each, every, every-each}
-use Rattle.package.specs.declared.Form.{Form}
-use Rattle.package.specs.declared.Form.the-variants.{Plane, Single, Double}
-use Rattle.package.specs.declared.Kind.{Kind}
-use Rattle.package.specs.declared.Probing.{Probing}
-use Rattle.package.specs.declared.Raws.{Raws}
+use Rattle.package.specs.declared.found.Form.{Form}
+use Rattle.package.specs.declared.found.Form.the-variants.{Plane, Single, Double}
+use Rattle.package.specs.declared.found.Kind.{Kind}
+use Rattle.package.specs.declared.arguments.Probing.{Probing}
+use Rattle.package.specs.declared.arguments.Raws.{Raws}
 use Rattle.rules.specs.Stores.{axisNumber, directionNumber, probeNumber, positionRange, widthRange}
 use Rattle.rules.specs.RefusalLaws.{all-of}
 use Rattle.rules.specs.Probes.{on}

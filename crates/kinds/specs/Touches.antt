@@ -1,7 +1,7 @@
 -- What a kind touches, in the code's structs, as the rules have it.
 use mathlib.Core.Path.{_≡_}
 use mathlib.Core.Bool.{true}
-use Rattle.package.specs.declared.Raws.{Raws}
+use Rattle.package.specs.declared.arguments.Raws.{Raws}
 use Rattle.rules.specs.Stores.{axisNumber, directionNumber, positionRange}
 use Rattle.rules.specs.Probes.{Direction, on}
 use Rattle.rules.specs.Sizes as rules

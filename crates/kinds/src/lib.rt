@@ -1,12 +1,12 @@
 // The kinds of measurement, and the surfaces that each touches. Document 01, 'Measured sizes'.
-use package::Form;
-use package::Kind;
-use package::Probing;
+use package::arguments::Probing;
+use package::found::Form;
+use package::found::Kind;
 ghost use mathlib.Core.Path.{_≡_};
 ghost use mathlib.Core.Bool.{Bool};
 ghost use mathlib.Core.List.{[], _∷_};
 ghost use Rattle.lists.specs.Each.{Each};
-ghost use Rattle.package.specs.declared.Form.the-variants.{Single, Double};
+ghost use Rattle.package.specs.declared.found.Form.the-variants.{Single, Double};
 ghost use Rattle.rules.specs.Kinds.{kind, toolKind};
 ghost use Rattle.rules.specs.Sizes.{pairs, plane};
 ghost use Rattle.kinds.specs.Touches.{touch, across};
@@ -27,8 +27,8 @@ pub struct Across {
 
 // The pairs of a hole or shaft, on axes 1 and 2.
 pub struct Both {
-    pub first: Across,
-    pub second: Across,
+    pub abscissa: Across,
+    pub ordinate: Across,
 }
 
 // The directions in which the low and the high surface of a pair are touched.
@@ -122,11 +122,11 @@ pub fn single_pair(k: Kind, a: Probing) -> Across
 // The pairs of a hole or shaft. No call of a user.
 pub fn both_pairs(k: Kind, a: Probing) -> Both
     requires { ⌜ k .form ≡ Double ⌝ }
-    ensures { λ r. ⌜ pairs k a ≡ across (r .first) ∷ across (r .second) ∷ [] ⌝ }
+    ensures { λ r. ⌜ pairs k a ≡ across (r .abscissa) ∷ across (r .ordinate) ∷ [] ⌝ }
 {
     let ways = ways_of(k);
     Both {
-        first: Across {
+        abscissa: Across {
             low: Touch {
                 axis: 1,
                 direction: ways.low,
@@ -139,7 +139,7 @@ pub fn both_pairs(k: Kind, a: Probing) -> Both
             },
             set: a.c1,
         },
-        second: Across {
+        ordinate: Across {
             low: Touch {
                 axis: 2,
                 direction: ways.low,

@@ -7,7 +7,7 @@ use job_limits::LINE_ROOM;
 use job_limits::LINES_LIMIT;
 use jobs::run_job;
 use libc::STDOUT_FILENO;
-use package::DONE;
+use package::refusals::DONE;
 use settings::fresh;
 
 // One byte more than a job may have, so that a longer one is seen.

@@ -1,7 +1,7 @@
 // One line on standard error: what is wrong and what to do.
 use job_limits::JOB_LIMIT;
 use libc::STDERR_FILENO;
-use package::EMPTY_JOB;
+use package::refusals::EMPTY_JOB;
 use text::LINE_FEED;
 ghost use mathlib.Core.Path.{_≡_};
 ghost use Prim.Native.Nat.{_≤_};

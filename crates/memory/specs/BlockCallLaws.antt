@@ -12,7 +12,7 @@ use Rattle.rules.specs.Block.{words, saveRules, savedWith}
 use Rattle.rules.specs.Calls.{load, refusal}
 use Rattle.layout.specs.Layout.{joined, records}
 use Rattle.area.specs.Table.{areaLength, sectionOf, numbers, recordFrom, held}
-use Rattle.area.specs.Called.{left, called}
+use Rattle.area.specs.Called.{unmeasured, called}
 use Rattle.area.specs.CalledLaws.{call-done}
 use Rattle.memory.specs.Saved.{savedAs, saveCalled}
 
@@ -28,7 +28,7 @@ module _ (area : List ℤ) where
     in-a-row (z ∷ zs) = rw (in-a-row zs)
 
     pub load-done : (bytes : List ℕ) → length bytes ≡ 80 → {once after : List ℤ} → once ≡ written area (sectionOf empiricals .at) (words (take 40 bytes))
-        → after ≡ written once (sectionOf means .at) (words (drop 40 bytes)) → left 0 after ≡ called area (load bytes)
+        → after ≡ written once (sectionOf means .at) (words (drop 40 bytes)) → unmeasured 0 after ≡ called area (load bytes)
     load-done bytes n e f =
         call-done area (load bytes) whole (rw (eq-eqb (length bytes) 80 n)) refl (rw (in-a-row (words (take 40 bytes)), in-a-row (words (drop 40 bytes))) (f ∙ rw e))
 

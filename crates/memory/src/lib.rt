@@ -5,9 +5,9 @@ use area::MEANS;
 use area::WRONG_AREA;
 use area::value_from;
 use layout::Section;
-use package::DONE;
-use package::Memory;
-use package::NO_ROOM;
+use package::records::Memory;
+use package::refusals::DONE;
+use package::refusals::NO_ROOM;
 use records::decode;
 use records::save_memory;
 ghost use mathlib.Core.Path.{_≡_};
@@ -20,7 +20,7 @@ ghost use Rattle.rules.specs.Stores.{means};
 ghost use Rattle.rules.specs.Calls.{load};
 ghost use Rattle.layout.specs.Layout.{end, records};
 ghost use Rattle.area.specs.Table.{recordFrom};
-ghost use Rattle.area.specs.Called.{left, called};
+ghost use Rattle.area.specs.Called.{unmeasured, called};
 ghost use Rattle.memory.specs.Saved.{savedAs, saveCalled};
 
 // Writes the values of 40 bytes from a place on.
@@ -38,7 +38,7 @@ fn write_values(area: &mut [i32], at: usize, bytes: &[u8])
 
 // Replaces all empirical and mean values by those of a block of 80 bytes.
 pub fn load(area: &mut [i32], bytes: &[u8]) -> u32
-    ensures { λ r. ⌜ left r (now (area .exit)) ≡ called (now (area .entry)) (load (now (bytes .entry))) ⌝ }
+    ensures { λ r. ⌜ unmeasured r (now (area .exit)) ≡ called (now (area .entry)) (load (now (bytes .entry))) ⌝ }
 {
     if area.len() != AREA {
         return WRONG_AREA;

@@ -8,13 +8,13 @@ use area::status_from;
 use area::value_from;
 use layout::Section;
 use layout::number_at;
-use package::Offset;
-use package::Probe;
-use package::ToolMeasurement;
-use package::ToolRecords;
-use package::Wear;
-use package::ZeroMeasurement;
-use package::ZeroRecords;
+use package::arguments::ToolMeasurement;
+use package::arguments::ZeroMeasurement;
+use package::found::ToolRecords;
+use package::found::ZeroRecords;
+use package::records::Offset;
+use package::records::Probe;
+use package::records::Wear;
 ghost use mathlib.Core.Path.{_≡_};
 ghost use mathlib.Core.Bool.{true};
 ghost use Prim.Native.Nat.{_≤_, _<_};
@@ -87,9 +87,9 @@ pub fn tool_records(area: &[i32], a: ToolMeasurement) -> ToolRecords
     requires { ⌜ ToolNumbers a ⌝ }
     ensures { λ r. ⌜ r ≡ toolRead (held (now (area .entry))) a ⌝ }
 {
-    let part = a.part;
+    let probing = a.probing;
     ToolRecords {
-        probe: probe_at(area, part.probe),
+        probe: probe_at(area, probing.probe),
         ev: value_at(area, EMPIRICALS, a.ev),
         mean: value_at(area, MEANS, a.mv),
         wear: wear_at(area, a.tool),
@@ -102,9 +102,9 @@ pub fn zero_records(area: &[i32], a: ZeroMeasurement) -> ZeroRecords
     requires { ⌜ ZeroNumbers a ⌝ }
     ensures { λ r. ⌜ r ≡ zeroRead (held (now (area .entry))) a ⌝ }
 {
-    let part = a.part;
+    let probing = a.probing;
     ZeroRecords {
-        probe: probe_at(area, part.probe),
+        probe: probe_at(area, probing.probe),
         offset: offset_at(area, a.offset),
     }
 }

@@ -9,13 +9,13 @@ use Rattle.signed.specs.Differences.{ints, parts}
 use Rattle.signed.specs.Sizes.{abs-add}
 use Rattle.signed.specs.Ranges.{minus}
 use Rattle.signed.specs.RangeLaws.{≤ℤ-trans}
-use Rattle.package.specs.declared.Limits.{Limits}
-use Rattle.package.specs.declared.Found.{Found}
-use Rattle.package.specs.declared.Kind.{Kind}
-use Rattle.package.specs.declared.Probing.{Probing}
-use Rattle.package.specs.declared.Sizes.{Sizes}
-use Rattle.package.specs.declared.ToolMeasurement.{ToolMeasurement}
-use Rattle.package.specs.declared.ZeroMeasurement.{ZeroMeasurement}
+use Rattle.package.specs.declared.arguments.Limits.{Limits}
+use Rattle.package.specs.declared.found.Found.{Found}
+use Rattle.package.specs.declared.found.Kind.{Kind}
+use Rattle.package.specs.declared.arguments.Probing.{Probing}
+use Rattle.package.specs.declared.found.Sizes.{Sizes}
+use Rattle.package.specs.declared.arguments.ToolMeasurement.{ToolMeasurement}
+use Rattle.package.specs.declared.arguments.ZeroMeasurement.{ZeroMeasurement}
 use Rattle.rules.specs.Sizes.{numbersOk}
 use Rattle.rules.specs.Results.{sizeEntries, toolEntries, zeroEntries}
 use Rattle.rules.specs.Passed.{LimitsPassed, ToolArgumentsPassed, ZeroArgumentsPassed}

@@ -1,9 +1,9 @@
 // The 42 numbers of a measurement that is done. Document 01, 'Result array'.
-use package::Found;
-use package::Kind;
-use package::Sizes;
-use package::ToolMeasurement;
-use package::ZeroMeasurement;
+use package::arguments::ToolMeasurement;
+use package::arguments::ZeroMeasurement;
+use package::found::Found;
+use package::found::Kind;
+use package::found::Sizes;
 use results::narrow;
 use results::size_numbers;
 ghost use mathlib.Core.Path.{_≡_};
@@ -20,9 +20,9 @@ pub fn tool_numbers(k: Kind, a: ToolMeasurement, f: Found) -> [i32; 42]
     requires { ⌜ ToolArgumentsPassed a × FoundSmall f ⌝ }
     ensures { λ r. ⌜ r ≡ toolFilled a f ⌝ }
 {
-    let part = a.part;
+    let probing = a.probing;
     let sizes = f.sizes;
-    let mut n = size_numbers(k, part, sizes, f.ev);
+    let mut n = size_numbers(k, probing, sizes, f.ev);
     n[8] = narrow(sizes.held.setpoint + a.limits.tul);
     n[12] = narrow(sizes.held.setpoint + a.limits.tll);
     n[20] = narrow(f.decision.correction);
@@ -45,8 +45,8 @@ pub fn zero_numbers(k: Kind, a: ZeroMeasurement, s: Sizes) -> [i32; 42]
     requires { ⌜ ZeroArgumentsPassed a × SizesSmall s ⌝ }
     ensures { λ r. ⌜ r ≡ zeroFilled a s ⌝ }
 {
-    let part = a.part;
-    let mut n = size_numbers(k, part, s, 0);
+    let probing = a.probing;
+    let mut n = size_numbers(k, probing, s, 0);
     n[28] = narrow(a.tsa);
     n[32] = narrow(a.offset);
     n

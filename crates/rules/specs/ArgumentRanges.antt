@@ -7,16 +7,16 @@ use Rattle.signed.specs.Ranges.{minus, within}
 use Rattle.signed.specs.RangeLaws.{within-is}
 use lib.Signed.{_≤ℤ_}
 use Rattle.lists.specs.Each.{Each, every, every-each, each-so}
-use Rattle.package.specs.declared.Form.{Form}
-use Rattle.package.specs.declared.Form.the-variants.{Plane, Single, Double}
-use Rattle.package.specs.declared.Kind.{Kind}
-use Rattle.package.specs.declared.Raws.{Raws}
-use Rattle.package.specs.declared.Probing.{Probing}
-use Rattle.package.specs.declared.Calibration.{Calibration}
-use Rattle.package.specs.declared.ToolMeasurement.{ToolMeasurement}
-use Rattle.package.specs.declared.ToolRecords.{ToolRecords}
-use Rattle.package.specs.declared.ZeroMeasurement.{ZeroMeasurement}
-use Rattle.package.specs.declared.ZeroRecords.{ZeroRecords}
+use Rattle.package.specs.declared.found.Form.{Form}
+use Rattle.package.specs.declared.found.Form.the-variants.{Plane, Single, Double}
+use Rattle.package.specs.declared.found.Kind.{Kind}
+use Rattle.package.specs.declared.arguments.Raws.{Raws}
+use Rattle.package.specs.declared.arguments.Probing.{Probing}
+use Rattle.package.specs.declared.arguments.Calibration.{Calibration}
+use Rattle.package.specs.declared.arguments.ToolMeasurement.{ToolMeasurement}
+use Rattle.package.specs.declared.found.ToolRecords.{ToolRecords}
+use Rattle.package.specs.declared.arguments.ZeroMeasurement.{ZeroMeasurement}
+use Rattle.package.specs.declared.found.ZeroRecords.{ZeroRecords}
 use Rattle.rules.specs.Stores.{positionRange, widthRange}
 use Rattle.rules.specs.StoreRanges.{Between}
 use Rattle.rules.specs.Refusals.{first, rising}
@@ -84,11 +84,11 @@ positions-given k a q e =
     go Double h = within-is (pos 1) (pos 10000000) (a .setpoint) h
 
 pub record ToolGiven (a : ToolMeasurement) : Type 0 where
-  pub kind : Between (pos 0) (pos 4) (a .part .kind)
+  pub kind : Between (pos 0) (pos 4) (a .probing .kind)
   pub tool : Between (pos 1) (pos 32) (a .tool)
   pub ev : Between (pos 0) (pos 20) (a .ev)
   pub mv : Between (pos 0) (pos 20) (a .mv)
-  pub positions : PositionsGiven (toolKindOf a) (a .part) (a .raws)
+  pub positions : PositionsGiven (toolKindOf a) (a .probing) (a .raws)
   pub weight : Between (pos 1) (pos 1000) (a .k)
   pub limits : LimitsPassed (a .limits)
 
@@ -97,27 +97,27 @@ tool-given r a e =
     let t = tool-passed r a e .arguments in
     let n = t .numbers in
     record {
-      kind = within-is (pos 0) (pos 4) (a .part .kind) (n .kind);
+      kind = within-is (pos 0) (pos 4) (a .probing .kind) (n .kind);
       tool = within-is (pos 1) (pos 32) (a .tool) (n .tool);
       ev = within-is (pos 0) (pos 20) (a .ev) (n .ev);
       mv = within-is (pos 0) (pos 20) (a .mv) (n .mv);
-      positions = positions-given (toolKindOf a) (a .part) (a .raws) (t .positions);
+      positions = positions-given (toolKindOf a) (a .probing) (a .raws) (t .positions);
       weight = within-is (pos 1) (pos 1000) (a .k) (t .weight);
       limits = t .limits;
     }
 
 pub record ZeroGiven (a : ZeroMeasurement) : Type 0 where
-  pub kind : Between (pos 100) (pos 104) (a .part .kind)
+  pub kind : Between (pos 100) (pos 104) (a .probing .kind)
   pub offset : Between (pos 1) (pos 4) (a .offset)
-  pub positions : PositionsGiven (zeroKindOf a) (a .part) (a .raws)
+  pub positions : PositionsGiven (zeroKindOf a) (a .probing) (a .raws)
   pub tsa : Between (pos 0) (pos 1000000) (a .tsa)
 
 pub zero-given : (r : ZeroRecords) (a : ZeroMeasurement) → first (zeroRules r a) ≡ 0 → ZeroGiven a
 zero-given r a e =
     let t = zero-passed r a e .arguments in
     record {
-      kind = within-is (pos 100) (pos 104) (a .part .kind) (t .numbers .kind);
+      kind = within-is (pos 100) (pos 104) (a .probing .kind) (t .numbers .kind);
       offset = within-is (pos 1) (pos 4) (a .offset) (t .numbers .offset);
-      positions = positions-given (zeroKindOf a) (a .part) (a .raws) (t .positions);
+      positions = positions-given (zeroKindOf a) (a .probing) (a .raws) (t .positions);
       tsa = within-is (pos 0) (pos 1000000) (a .tsa) (t .tsa);
     }

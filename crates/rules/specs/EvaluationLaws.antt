@@ -5,10 +5,10 @@ use native.Mathlib.Omega.{arith}
 use lib.Dec.{eqb}
 use lib.IntN.{ℤ}
 use lib.Signed.{ltZ}
-use Rattle.package.specs.declared.Limits.{Limits}
-use Rattle.package.specs.declared.Branch.{Branch}
-use Rattle.package.specs.declared.Branch.the-variants.{One, Two, Three, Four, Five}
-use Rattle.package.specs.declared.Evaluation.{Evaluation}
+use Rattle.package.specs.declared.arguments.Limits.{Limits}
+use Rattle.package.specs.declared.found.Branch.{Branch}
+use Rattle.package.specs.declared.found.Branch.the-variants.{One, Two, Three, Four, Five}
+use Rattle.package.specs.declared.found.Evaluation.{Evaluation}
 use Rattle.rules.specs.Stores.{Package}
 use Rattle.rules.specs.Refusals.{greatestRefusal}
 use Rattle.rules.specs.RefusalLaws.{Limited, first-small}

@@ -10,13 +10,13 @@ use lib.Signed.{_≤ℤ_, leZ, leZ-yes}
 use borrow.Author.Tests.{eqb-true}
 use Rattle.signed.specs.Ranges.{minus, within, size}
 use Rattle.signed.specs.RangeLaws.{true-T}
-use Rattle.package.specs.declared.Calibration.{Calibration}
-use Rattle.package.specs.declared.Limits.{Limits}
-use Rattle.package.specs.declared.Tests.{Tests}
-use Rattle.package.specs.declared.ToolMeasurement.{ToolMeasurement}
-use Rattle.package.specs.declared.ToolRecords.{ToolRecords}
-use Rattle.package.specs.declared.ZeroMeasurement.{ZeroMeasurement}
-use Rattle.package.specs.declared.ZeroRecords.{ZeroRecords}
+use Rattle.package.specs.declared.arguments.Calibration.{Calibration}
+use Rattle.package.specs.declared.arguments.Limits.{Limits}
+use Rattle.package.specs.declared.found.Tests.{Tests}
+use Rattle.package.specs.declared.arguments.ToolMeasurement.{ToolMeasurement}
+use Rattle.package.specs.declared.found.ToolRecords.{ToolRecords}
+use Rattle.package.specs.declared.arguments.ZeroMeasurement.{ZeroMeasurement}
+use Rattle.package.specs.declared.found.ZeroRecords.{ZeroRecords}
 use Rattle.rules.specs.Stores.{probeNumber, axisNumber, directionNumber, valueNumber, toolNumber, offsetNumber, valueRange, wearRange, offsetRange, triggerRange}
 use Rattle.rules.specs.Refusals.{Rule, first, rising}
 use Rattle.rules.specs.RefusalLaws.{Numbered, test, test-passed, both-zero, all-of, rising-is}
@@ -119,15 +119,15 @@ room-passed array place rs e = go (room array place .passed) e
 
 -- ---- with tool offset
 pub record ToolNumbers (a : ToolMeasurement) : Type 0 where
-  pub kind : toolKindNumber (a .part .kind) ≡ true
-  pub numbers : numbersOk (toolKindOf a) (a .part) ≡ true
+  pub kind : toolKindNumber (a .probing .kind) ≡ true
+  pub numbers : numbersOk (toolKindOf a) (a .probing) ≡ true
   pub tool : toolNumber (a .tool) ≡ true
   pub ev : namedOrNone (a .ev) ≡ true
   pub mv : namedOrNone (a .mv) ≡ true
 
 pub tool-numbers : (a : ToolMeasurement) → toolNumbers a ≡ true → ToolNumbers a
 tool-numbers a e =
-    let t = all-of (toolKindNumber (a .part .kind)) (numbersOk (toolKindOf a) (a .part) ∷ toolNumber (a .tool) ∷ namedOrNone (a .ev) ∷ namedOrNone (a .mv) ∷ []) e in
+    let t = all-of (toolKindNumber (a .probing .kind)) (numbersOk (toolKindOf a) (a .probing) ∷ toolNumber (a .tool) ∷ namedOrNone (a .ev) ∷ namedOrNone (a .mv) ∷ []) e in
     record { kind = t .0; numbers = t .1 .0; tool = t .1 .1 .0; ev = t .1 .1 .1 .0; mv = t .1 .1 .1 .1 .0 }
 
 -- "0 ≤ TZL ≤ TMV ≤ TDIF ≤ TSA ≤ 1,000,000; TMV ≤ 32,767; TLL ≤ TUL, both within ±1,000,000"
@@ -162,7 +162,7 @@ limits-are l e =
 
 pub record ToolArgumentsPassed (a : ToolMeasurement) : Type 0 where
   pub numbers : ToolNumbers a
-  pub positions : positionsOk (toolKindOf a) (a .part) (a .raws) ≡ true
+  pub positions : positionsOk (toolKindOf a) (a .probing) (a .raws) ≡ true
   pub weight : within (pos 1) (pos 1000) (a .k) ≡ true
   pub limits : LimitsPassed (a .limits)
 
@@ -170,7 +170,7 @@ pub tool-arguments-passed : (a : ToolMeasurement) → first (toolArguments a) �
 unfolding toolArguments
 tool-arguments-passed a e =
     let by : (n : ℕ) → test n (toolArguments a) ≡ true = λ n. test-passed n (toolArguments a) tt e in
-    let w = and-eq-true-iff (positionsOk (toolKindOf a) (a .part) (a .raws)) (within (pos 1) (pos 1000) (a .k)) .0 (by 3) in
+    let w = and-eq-true-iff (positionsOk (toolKindOf a) (a .probing) (a .raws)) (within (pos 1) (pos 1000) (a .k)) .0 (by 3) in
     record { numbers = tool-numbers a (by 2); positions = w .0; weight = w .1; limits = limits-are (a .limits) (by 4) }
 
 pub record ToolPassed (r : ToolRecords) (a : ToolMeasurement) : Type 0 where
@@ -188,18 +188,18 @@ tool-call-passed r a array place e = tool-passed r a (room-passed array place (t
 
 -- ---- with zero offset
 pub record ZeroNumbers (a : ZeroMeasurement) : Type 0 where
-  pub kind : zeroKindNumber (a .part .kind) ≡ true
-  pub numbers : numbersOk (zeroKindOf a) (a .part) ≡ true
+  pub kind : zeroKindNumber (a .probing .kind) ≡ true
+  pub numbers : numbersOk (zeroKindOf a) (a .probing) ≡ true
   pub offset : offsetNumber (a .offset) ≡ true
 
 pub zero-numbers : (a : ZeroMeasurement) → zeroNumbers a ≡ true → ZeroNumbers a
 zero-numbers a e =
-    let t = all-of (zeroKindNumber (a .part .kind)) (numbersOk (zeroKindOf a) (a .part) ∷ offsetNumber (a .offset) ∷ []) e in
+    let t = all-of (zeroKindNumber (a .probing .kind)) (numbersOk (zeroKindOf a) (a .probing) ∷ offsetNumber (a .offset) ∷ []) e in
     record { kind = t .0; numbers = t .1 .0; offset = t .1 .1 .0 }
 
 pub record ZeroArgumentsPassed (a : ZeroMeasurement) : Type 0 where
   pub numbers : ZeroNumbers a
-  pub positions : positionsOk (zeroKindOf a) (a .part) (a .raws) ≡ true
+  pub positions : positionsOk (zeroKindOf a) (a .probing) (a .raws) ≡ true
   pub tsa : within (pos 0) (pos 1000000) (a .tsa) ≡ true
 
 pub zero-arguments-passed : (a : ZeroMeasurement) → first (zeroArguments a) ≡ 0 → ZeroArgumentsPassed a

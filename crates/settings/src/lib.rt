@@ -5,7 +5,7 @@ use area::OFFSETS;
 use area::TOOLS;
 use area::WRONG_AREA;
 use layout::put_record;
-use package::DONE;
+use package::refusals::DONE;
 use records::empirical_refusal;
 use records::offset_refusal;
 use records::wear_refusal;
@@ -13,7 +13,7 @@ ghost use mathlib.Core.Path.{_≡_};
 ghost use lib.IntN.{pos};
 ghost use lib.ListN.{length, replicate};
 ghost use Rattle.rules.specs.Calls.{setEmpirical, setWear, setOffset};
-ghost use Rattle.area.specs.Called.{left, called, freshCalled};
+ghost use Rattle.area.specs.Called.{unmeasured, called, freshCalled};
 
 // Writes 0 to every number.
 fn clear(area: &mut [i32])
@@ -28,7 +28,7 @@ fn clear(area: &mut [i32])
 
 // Writes the fresh package, every record 0.
 pub fn fresh(area: &mut [i32]) -> u32
-    ensures { λ r. ⌜ left r (now (area .exit)) ≡ freshCalled (now (area .entry)) ⌝ }
+    ensures { λ r. ⌜ unmeasured r (now (area .exit)) ≡ freshCalled (now (area .entry)) ⌝ }
 {
     if area.len() != AREA {
         return WRONG_AREA;
@@ -39,7 +39,7 @@ pub fn fresh(area: &mut [i32]) -> u32
 
 // Replaces one empirical value.
 pub fn set_empirical(area: &mut [i32], ev: i64, value: i64) -> u32
-    ensures { λ r. ⌜ left r (now (area .exit)) ≡ called (now (area .entry)) (setEmpirical ev value) ⌝ }
+    ensures { λ r. ⌜ unmeasured r (now (area .exit)) ≡ called (now (area .entry)) (setEmpirical ev value) ⌝ }
 {
     if area.len() != AREA {
         return WRONG_AREA;
@@ -55,7 +55,7 @@ pub fn set_empirical(area: &mut [i32], ev: i64, value: i64) -> u32
 
 // Replaces one tool's two wears.
 pub fn set_wear(area: &mut [i32], tool: i64, radius: i64, length: i64) -> u32
-    ensures { λ r. ⌜ left r (now (area .exit)) ≡ called (now (area .entry)) (setWear tool radius length) ⌝ }
+    ensures { λ r. ⌜ unmeasured r (now (area .exit)) ≡ called (now (area .entry)) (setWear tool radius length) ⌝ }
 {
     if area.len() != AREA {
         return WRONG_AREA;
@@ -71,7 +71,7 @@ pub fn set_wear(area: &mut [i32], tool: i64, radius: i64, length: i64) -> u32
 
 // Replaces one zero offset on its three axes.
 pub fn set_offset(area: &mut [i32], offset: i64, v1: i64, v2: i64, v3: i64) -> u32
-    ensures { λ r. ⌜ left r (now (area .exit)) ≡ called (now (area .entry)) (setOffset offset v1 v2 v3) ⌝ }
+    ensures { λ r. ⌜ unmeasured r (now (area .exit)) ≡ called (now (area .entry)) (setOffset offset v1 v2 v3) ⌝ }
 {
     if area.len() != AREA {
         return WRONG_AREA;

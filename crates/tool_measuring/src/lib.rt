@@ -6,10 +6,10 @@ use kinds::kind_of;
 use measuring::Decided;
 use measuring::not_answered;
 use measuring::not_decided;
-use package::Answer;
-use package::DONE;
-use package::NO_ROOM;
-use package::ToolMeasurement;
+use package::arguments::ToolMeasurement;
+use package::found::Answer;
+use package::refusals::DONE;
+use package::refusals::NO_ROOM;
 use result_numbers::tool_numbers;
 use results::has_room;
 use results::refused_numbers;
@@ -29,8 +29,8 @@ pub fn tool_line(area: &mut [i32], a: ToolMeasurement) -> Answer
     if area.len() != AREA {
         return not_answered(WRONG_AREA);
     }
-    let part = a.part;
-    let outcome = evaluate_tool(area, kind_of(part.kind), a);
+    let probing = a.probing;
+    let outcome = evaluate_tool(area, kind_of(probing.kind), a);
     match outcome {
         ToolOutcome::Refused(n) => not_answered(n),
         ToolOutcome::Done(f) => Answer {
@@ -55,8 +55,8 @@ pub fn measure_tool(
     if !has_room(results.len(), place) {
         return not_decided(NO_ROOM);
     }
-    let part = a.part;
-    let k = kind_of(part.kind);
+    let probing = a.probing;
+    let k = kind_of(probing.kind);
     let outcome = evaluate_tool(area, k, a);
     match outcome {
         ToolOutcome::Refused(n) => {

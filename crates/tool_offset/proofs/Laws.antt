@@ -10,13 +10,13 @@ use mir.Val.{SFits}
 use Rattle.signed.specs.Differences.{ints, parts}
 use Rattle.signed.specs.Ranges.{minus}
 use Rattle.signed.specs.RangeLaws.{is-within}
-use Rattle.package.specs.declared.Kind.{Kind}
-use Rattle.package.specs.declared.Sizes.{Sizes}
-use Rattle.package.specs.declared.Decision.{Decision}
-use Rattle.package.specs.declared.ToolMeasurement.{ToolMeasurement}
-use Rattle.package.specs.declared.ToolRecords.{ToolRecords}
-use Rattle.package.specs.declared.Branch.{Branch}
-use Rattle.package.specs.declared.Branch.the-variants.{One, Two, Three, Four, Five}
+use Rattle.package.specs.declared.found.Kind.{Kind}
+use Rattle.package.specs.declared.found.Sizes.{Sizes}
+use Rattle.package.specs.declared.found.Decision.{Decision}
+use Rattle.package.specs.declared.arguments.ToolMeasurement.{ToolMeasurement}
+use Rattle.package.specs.declared.found.ToolRecords.{ToolRecords}
+use Rattle.package.specs.declared.found.Branch.{Branch}
+use Rattle.package.specs.declared.found.Branch.the-variants.{One, Two, Three, Four, Five}
 use Rattle.rules.specs.Stores.{valueRange}
 use Rattle.rules.specs.Sizes.{difference, sizesOf, calibratedOk}
 use Rattle.rules.specs.Tool.{toolKindOf, weight, named, correctionIn, decided, onLength, factor, wearOn, deviation as deviationOf, decision as decisionOf, wearLeft, toolFound}
@@ -40,9 +40,9 @@ correction-size n Five next d h k = k
 
 -- the parts that the code finds, of its kind k
 module _ (r : ToolRecords) (a : ToolMeasurement) {k : Kind} (kind : k ≡ toolKindOf a) where
-  pub found-is : {calibrated : Bool} {sizes : Sizes} {d wear : ℤ} {decision : Decision} → calibrated ≡ calibratedOk (r .probe .status) k (a .part)
-      → sizes ≡ sizesOf (r .probe) k (a .part) (a .raws) → d ≡ difference (sizes .held) (r .ev) → decision ≡ decided (a .limits) (named a) (r .mean) d (weight a)
-      → wear ≡ wearOn (onLength k (a .part .axis)) (r .wear) +ℤ factor k (a .part .direction) *ℤ decision .correction
+  pub found-is : {calibrated : Bool} {sizes : Sizes} {d wear : ℤ} {decision : Decision} → calibrated ≡ calibratedOk (r .probe .status) k (a .probing)
+      → sizes ≡ sizesOf (r .probe) k (a .probing) (a .raws) → d ≡ difference (sizes .held) (r .ev) → decision ≡ decided (a .limits) (named a) (r .mean) d (weight a)
+      → wear ≡ wearOn (onLength k (a .probing .axis)) (r .wear) +ℤ factor k (a .probing .direction) *ℤ decision .correction
       → record { calibrated = calibrated; sizes = sizes; ev = r .ev; deviation = d; decision = decision; wear = wear } ≡ toolFound r a
   unfolding deviationOf decisionOf wearLeft
   found-is c s d t w = rw (c, w, t, d, s, kind)

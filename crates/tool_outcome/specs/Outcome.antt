@@ -2,7 +2,7 @@
 use mathlib.Core.Path.{_≡_}
 use mathlib.Core.List.{List}
 use lib.IntN.{ℤ}
-use Rattle.package.specs.declared.ToolMeasurement.{ToolMeasurement}
+use Rattle.package.specs.declared.arguments.ToolMeasurement.{ToolMeasurement}
 use Rattle.rules.specs.Tool.{toolFound, toolRules}
 use Rattle.rules.specs.Calls.{measureTool, toolRead, changes}
 use Rattle.area.specs.Table.{held}

@@ -2,11 +2,11 @@
 use area::MEANS;
 use area::TOOLS;
 use layout::put_record;
-use package::DONE;
-use package::Found;
-use package::Kind;
-use package::ToolMeasurement;
-use package::Wear;
+use package::arguments::ToolMeasurement;
+use package::found::Found;
+use package::found::Kind;
+use package::records::Wear;
+use package::refusals::DONE;
 use reading::tool_records;
 use results::records_refusal;
 use tool_offset::tool_found;
@@ -50,7 +50,7 @@ pub fn evaluate_tool(area: &mut [i32], k: Kind, a: ToolMeasurement) -> ToolOutco
     requires { ⌜ k ≡ toolKindOf a ⌝ }
     ensures { λ r. ⌜ ToolEvaluated a (now (area .entry)) (now (area .exit)) r ⌝ }
 {
-    let part = a.part;
+    let probing = a.probing;
     let stated = tool_refusal(k, a);
     if stated != DONE {
         return ToolOutcome::Refused(stated);
@@ -62,6 +62,6 @@ pub fn evaluate_tool(area: &mut [i32], k: Kind, a: ToolMeasurement) -> ToolOutco
         return ToolOutcome::Refused(refusal);
     }
     let w = r.wear;
-    put_tool(area, a, f.decision.mean, wears_left(w, k, part, f.wear));
+    put_tool(area, a, f.decision.mean, wears_left(w, k, probing, f.wear));
     ToolOutcome::Done(f)
 }

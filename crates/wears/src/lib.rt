@@ -1,8 +1,8 @@
 // The wear that a correction changes. Document 01, 'Tolerance, mean, correction'.
-use package::Form;
-use package::Kind;
-use package::Probing;
-use package::Wear;
+use package::arguments::Probing;
+use package::found::Form;
+use package::found::Kind;
+use package::records::Wear;
 use probes::sign_of;
 use signed::same;
 ghost use mathlib.Core.Path.{_≡_};

@@ -15,7 +15,7 @@ use area::OFFSETS;
 use area::PROBES;
 use area::TOOLS;
 use check::same;
-use package::Status;
+use package::records::Status;
 use signed::in_range;
 
 // What is shown of a row, by the mark before it: all where there is none; the row and its refusal; the refusal alone; nothing.

@@ -5,10 +5,10 @@ use evaluation::zero_evaluation;
 use measuring::Decided;
 use measuring::not_answered;
 use measuring::not_decided;
-use package::Answer;
-use package::DONE;
-use package::NO_ROOM;
-use package::ZeroMeasurement;
+use package::arguments::ZeroMeasurement;
+use package::found::Answer;
+use package::refusals::DONE;
+use package::refusals::NO_ROOM;
 use result_numbers::zero_numbers;
 use results::has_room;
 use results::refused_numbers;
@@ -29,8 +29,8 @@ pub fn zero_line(area: &mut [i32], a: ZeroMeasurement) -> Answer
     if area.len() != AREA {
         return not_answered(WRONG_AREA);
     }
-    let part = a.part;
-    let outcome = evaluate_zero(area, zero_kind_of(part.kind), a);
+    let probing = a.probing;
+    let outcome = evaluate_zero(area, zero_kind_of(probing.kind), a);
     match outcome {
         ZeroOutcome::Refused(n) => not_answered(n),
         ZeroOutcome::Done(s) => Answer {
@@ -55,8 +55,8 @@ pub fn measure_zero(
     if !has_room(results.len(), place) {
         return not_decided(NO_ROOM);
     }
-    let part = a.part;
-    let k = zero_kind_of(part.kind);
+    let probing = a.probing;
+    let k = zero_kind_of(probing.kind);
     let outcome = evaluate_zero(area, k, a);
     match outcome {
         ZeroOutcome::Refused(n) => {

@@ -2,7 +2,7 @@
 use mathlib.Core.Path.{_≡_}
 use mathlib.Core.List.{List}
 use lib.IntN.{ℤ}
-use Rattle.package.specs.declared.ZeroMeasurement.{ZeroMeasurement}
+use Rattle.package.specs.declared.arguments.ZeroMeasurement.{ZeroMeasurement}
 use Rattle.rules.specs.Zero.{zeroSizes, zeroRules}
 use Rattle.rules.specs.Calls.{measureZero, zeroRead, changes}
 use Rattle.area.specs.Table.{held}

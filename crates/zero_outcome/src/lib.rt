@@ -1,11 +1,11 @@
 // What a measurement with zero offset does to a lent area. Document 01, 'Zero offset kinds'.
 use area::OFFSETS;
 use layout::put_record;
-use package::DONE;
-use package::Kind;
-use package::Offset;
-use package::Sizes;
-use package::ZeroMeasurement;
+use package::arguments::ZeroMeasurement;
+use package::found::Kind;
+use package::found::Sizes;
+use package::records::Offset;
+use package::refusals::DONE;
 use reading::zero_records;
 use results::records_refusal;
 use sizes::sizes_of;
@@ -45,7 +45,7 @@ pub fn evaluate_zero(area: &mut [i32], k: Kind, a: ZeroMeasurement) -> ZeroOutco
     requires { ⌜ k ≡ zeroKindOf a ⌝ }
     ensures { λ r. ⌜ ZeroEvaluated a (now (area .entry)) (now (area .exit)) r ⌝ }
 {
-    let part = a.part;
+    let probing = a.probing;
     let raws = a.raws;
     let stated = zero_refusal(k, a);
     if stated != DONE {
@@ -53,7 +53,7 @@ pub fn evaluate_zero(area: &mut [i32], k: Kind, a: ZeroMeasurement) -> ZeroOutco
     }
     let r = zero_records(&area[..], a);
     let x = r.probe;
-    let s = sizes_of(x, k, part, raws);
+    let s = sizes_of(x, k, probing, raws);
     let refusal = records_refusal(zero_tests(r, k, a, s));
     if refusal != DONE {
         return ZeroOutcome::Refused(refusal);

@@ -1,6 +1,6 @@
 use mathlib.Core.Path.{ap, _∙_}
 use borrow.Author.Needs.{needs}
-use Rattle.package.specs.declared.ToolMeasurement.{ToolMeasurement}
+use Rattle.package.specs.declared.arguments.ToolMeasurement.{ToolMeasurement}
 use Rattle.arguments.specs.Arguments.{toolOf}
 use Rattle.measuring.specs.Reply.{Reply, toolReplied}
 use Rattle.boundary.specs.ExportedLaws.{exported-wrong, exported-short, exported-made}

@@ -1,6 +1,6 @@
 use mathlib.Core.Path.{ap, _∙_}
 use borrow.Author.Needs.{needs}
-use Rattle.package.specs.declared.ZeroMeasurement.{ZeroMeasurement}
+use Rattle.package.specs.declared.arguments.ZeroMeasurement.{ZeroMeasurement}
 use Rattle.arguments.specs.Arguments.{zeroOf}
 use Rattle.measuring.specs.Reply.{Reply, zeroReplied}
 use Rattle.boundary.specs.ExportedLaws.{exported-wrong, exported-short, exported-made}

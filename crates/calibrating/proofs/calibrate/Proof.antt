@@ -15,7 +15,7 @@ use Rattle.rules.specs.Stores.{probes}
 use Rattle.rules.specs.Probes.{placeOf}
 use Rattle.rules.specs.Calibration.{calibrationArguments, calibratedWith}
 use Rattle.rules.specs.Calls.{calibrate}
-use Rattle.package.specs.declared.Calibrated.{Calibrated}
+use Rattle.package.specs.declared.found.Calibrated.{Calibrated}
 use Rattle.probes.specs.CalibratedLaws.{arguments, place-passed}
 use Rattle.layout.specs.Layout.{named}
 use Rattle.area.specs.Table.{areaLength, sectionOf, statusFrom}

@@ -7,7 +7,7 @@ use mir.Facts.{toZ-ofZ}
 use borrow.Author.Needs.{needs}
 use Rattle.signed.specs.CodeLaws.{failed, passed, read}
 use Rattle.signed.specs.Expressions.{Ex, lit, bound, mul, sized, Runs, run}
-use Rattle.package.specs.declared.Sizes.{Sizes}
+use Rattle.package.specs.declared.found.Sizes.{Sizes}
 use Rattle.rules.specs.Sizes.{pairIn}
 use Rattle.rules.specs.Zero.{corrects}
 use Rattle.kinds.proofs.Laws.{a-pair}
@@ -53,8 +53,8 @@ shift-on-requires c κs = search needs
 
 shift-size : (s : Sizes) → SizesSmall s → (n : ℤ) → natAbs (pairIn s n .shift) ≤ 100000000
 shift-size s t (pos zero) = omega arith
-shift-size s t (pos (suc zero)) = omega (arith, t .first .shift)
-shift-size s t (pos (suc (suc zero))) = omega (arith, t .second .shift)
+shift-size s t (pos (suc zero)) = omega (arith, t .abscissa .shift)
+shift-size s t (pos (suc (suc zero))) = omega (arith, t .ordinate .shift)
 shift-size s t (pos (suc (suc (suc n)))) = omega arith
 shift-size s t (negsuc n) = omega arith
 

@@ -4,9 +4,9 @@ use mathlib.Core.List.{List, [], _∷_}
 use Prim.Native.Nat.{ℕ}
 use borrow.Author.Needs.{needs}
 use Rattle.lists.specs.Each.{Each, every, every-append}
-use Rattle.package.specs.declared.Form.the-variants.{Plane, Single, Double}
-use Rattle.package.specs.declared.Kind.{Kind}
-use Rattle.package.specs.declared.Probing.{Probing}
+use Rattle.package.specs.declared.found.Form.the-variants.{Plane, Single, Double}
+use Rattle.package.specs.declared.found.Kind.{Kind}
+use Rattle.package.specs.declared.arguments.Probing.{Probing}
 use Rattle.rules.specs.Probes.{on, calibratedIn}
 use Rattle.rules.specs.Sizes.{Across, Touch, pairs, calibratedOk}
 use Rattle.kinds.specs.Touches.{Placed, across}
@@ -66,7 +66,7 @@ enum-told-3 c = search needs
 both-pairs-requires : tie.Need-both-pairs-requires
 both-pairs-requires c κs = search needs
 
-both-placed : (c : tie.After-both-pairs) → BothPlaced (across (c .both-pairs .result .first) ∷ across (c .both-pairs .result .second) ∷ [])
+both-placed : (c : tie.After-both-pairs) → BothPlaced (across (c .both-pairs .result .abscissa) ∷ across (c .both-pairs .result .ordinate) ∷ [])
 both-placed c =
     let s = c .before .before .before in
     subst BothPlaced (c .both-pairs .ensures) (pairs-placed (s .args .k) (s .args .a) (s .pre))
@@ -96,8 +96,8 @@ returns-3 c =
     let b = c .before .before in
     let e = b .before in
     let s = e .before .before in
-    let p = across (b .both-pairs .result .first) in
-    let q = across (b .both-pairs .result .second) in
+    let p = across (b .both-pairs .result .abscissa) in
+    let q = across (b .both-pairs .result .ordinate) in
     ap₂ _&&_ (c .before .pair-calibrated2 .ensures) (c .pair-calibrated3 .ensures)
     ∙ sym (of-double (s .args .x .status) (s .args .k) (s .args .a) p q (e .enum-told3 .given .1) (b .both-pairs .ensures))
 

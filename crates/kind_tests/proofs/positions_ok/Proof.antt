@@ -9,10 +9,10 @@ use mir.Val.{toZ, ofZ}
 use borrow.Author.Needs.{needs}
 use Rattle.signed.specs.CodeLaws.{read}
 use Rattle.lists.specs.Each.{Each, every, every-append}
-use Rattle.package.specs.declared.Form.the-variants.{Plane, Single, Double}
-use Rattle.package.specs.declared.Kind.{Kind}
-use Rattle.package.specs.declared.Probing.{Probing}
-use Rattle.package.specs.declared.Raws.{Raws}
+use Rattle.package.specs.declared.found.Form.the-variants.{Plane, Single, Double}
+use Rattle.package.specs.declared.found.Kind.{Kind}
+use Rattle.package.specs.declared.arguments.Probing.{Probing}
+use Rattle.package.specs.declared.arguments.Raws.{Raws}
 use Rattle.rules.specs.Stores.{positionRange, widthRange}
 use Rattle.rules.specs.Kinds.{kind}
 use Rattle.rules.specs.Sizes.{pairs, positionsOk}

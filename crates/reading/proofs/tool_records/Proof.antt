@@ -14,7 +14,7 @@ probe-at-requires : tie.Need-probe-at-requires
 probe-at-requires c κs =
     let s = c .before .before in
     let a = s .args .a in
-    (s .pre .0, rw (read (a .part .probe) (c .struct-told .given .1 .0 .1)) (probe-number (toolKindOf a) (a .part) (s .pre .1 .numbers)))
+    (s .pre .0, rw (read (a .probing .probe) (c .struct-told .given .1 .0 .1)) (probe-number (toolKindOf a) (a .probing) (s .pre .1 .numbers)))
 
 value-at-requires : tie.Need-value-at-requires
 value-at-requires c κs =
@@ -46,7 +46,7 @@ returns c =
     let ev : Known area empiricals (a .ev) = record { whole = s .pre .0; named-in = s .pre .1 .ev; fits = record { sfits = t2 .struct-told2 .given .1 .1 .1 .0 .1 } } in
     let mv : Known area means (a .mv) = record { whole = s .pre .0; named-in = s .pre .1 .mv; fits = record { sfits = t3 .struct-told3 .given .1 .1 .1 .1 .0 .1 } } in
     rw (
-      rw (read (a .part .probe) (t1 .struct-told .given .1 .0 .1)) at (x .probe-at .ensures),
+      rw (read (a .probing .probe) (t1 .struct-told .given .1 .0 .1)) at (x .probe-at .ensures),
       read-as w16 (e .value-at .result) (e .value-at .ok) ∙ (rw (toZ-ofZ (ev .fits)) at (e .value-at .ensures)) ∙ held-at ev,
       read-as w16 (m .value-at2 .result) (m .value-at2 .ok) ∙ (rw (toZ-ofZ (mv .fits)) at (m .value-at2 .ensures)) ∙ held-at mv,
       rw (read (a .tool) (t4 .struct-told4 .given .1 .1 .0 .1)) at (c .wear-at .ensures),

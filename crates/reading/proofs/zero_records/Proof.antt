@@ -8,7 +8,7 @@ probe-at-requires : tie.Need-probe-at-requires
 probe-at-requires c κs =
     let s = c .before .before in
     let a = s .args .a in
-    (s .pre .0, rw (read (a .part .probe) (c .struct-told .given .1 .0 .1)) (probe-number (zeroKindOf a) (a .part) (s .pre .1 .numbers)))
+    (s .pre .0, rw (read (a .probing .probe) (c .struct-told .given .1 .0 .1)) (probe-number (zeroKindOf a) (a .probing) (s .pre .1 .numbers)))
 
 offset-at-requires : tie.Need-offset-at-requires
 offset-at-requires c κs =
@@ -22,7 +22,7 @@ returns c =
     let t1 = x .before in
     let a = t1 .before .before .args .a in
     rw (
-      rw (read (a .part .probe) (t1 .struct-told .given .1 .0 .1)) at (x .probe-at .ensures),
+      rw (read (a .probing .probe) (t1 .struct-told .given .1 .0 .1)) at (x .probe-at .ensures),
       rw (read (a .offset) (t2 .struct-told2 .given .1 .1 .0 .1)) at (c .offset-at .ensures),
     )
 

@@ -25,7 +25,7 @@ size-numbers-requires c κs =
     let h = s .pre .1 .0 .numbers in
     let f = s .pre .1 .1 in
     rw (read (s .args .f .ev) (c .struct-told .given .1 .1 .0 .1), s .pre .0)
-    (both-small (toolKindOf a) (a .part) (s .args .f .sizes) (s .args .f .ev) (h .numbers) (omega (arith, number-size 0 4 (a .part .kind) (h .kind))) (f .sizes) (f .ev))
+    (both-small (toolKindOf a) (a .probing) (s .args .f .sizes) (s .args .f .ev) (h .numbers) (omega (arith, number-size 0 4 (a .probing .kind) (h .kind))) (f .sizes) (f .ev))
 
 -- the size of a number, by its place in the list of entries
 sized : (c : tie.Start) (i : ℕ) → i < 13

@@ -1,6 +1,6 @@
 use mathlib.Core.Path.{_≡_, refl}
 use borrow.Author.Needs.{needs}
-use Rattle.package.specs.declared.Branch.the-variants.{One, Two, Three, Four, Five}
+use Rattle.package.specs.declared.found.Branch.the-variants.{One, Two, Three, Four, Five}
 use Rattle.tolerance.proofs.branch_number.Statement.{statement}
 use Rattle.tolerance.proofs.branch_number.Tie as tie
 

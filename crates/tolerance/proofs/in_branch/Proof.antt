@@ -5,8 +5,8 @@ use lib.IntN.{pos}
 use lib.ListN.{getD}
 use borrow.Author.Needs.{needs}
 use Rattle.signed.specs.CodeLaws.{read}
-use Rattle.package.specs.declared.Branch.{Branch}
-use Rattle.package.specs.declared.Branch.the-variants.{One, Two, Three, Four, Five}
+use Rattle.package.specs.declared.found.Branch.{Branch}
+use Rattle.package.specs.declared.found.Branch.the-variants.{One, Two, Three, Four, Five}
 use Rattle.rules.specs.Tool.{branchNumber}
 use Rattle.tolerance.proofs.in_branch.Statement.{statement}
 use Rattle.tolerance.proofs.in_branch.Tie as tie

@@ -30,7 +30,7 @@ whole c = c .before .before .before .before
 evaluate-tool-requires : tie.Need-evaluate-tool-requires
 evaluate-tool-requires c κs =
     let e = whole c in
-    (e .if1 .left, rw (read (e .before .args .a .part .kind) (c .before .struct-told .given .0 .1)) at (c .kind-of .ensures))
+    (e .if1 .left, rw (read (e .before .args .a .probing .kind) (c .before .struct-told .given .0 .1)) at (c .kind-of .ensures))
 
 -- ---- what became of it, by the arms
 module _ (c : tie.After-area) where

@@ -13,7 +13,7 @@ use Rattle.tool_offset.proofs.Laws.{small-value, found-is}
 use Rattle.tool_offset.proofs.tool_found.Statement.{statement}
 use Rattle.tool_offset.proofs.tool_found.Tie as tie
 
-passed : (s : tie.Start) → let a = s .args .a in (numbersOk (s .args .k) (a .part) ≡ true) × (positionsOk (s .args .k) (a .part) (a .raws) ≡ true)
+passed : (s : tie.Start) → let a = s .args .a in (numbersOk (s .args .k) (a .probing) ≡ true) × (positionsOk (s .args .k) (a .probing) (a .raws) ≡ true)
 passed s = rw (s .pre .0) (s .pre .1 .numbers .numbers, s .pre .1 .positions)
 
 sizes-of-requires : tie.Need-sizes-of-requires
@@ -25,7 +25,7 @@ start c = c .before .before .before .before .before
 small : (c : tie.After-sizes-of) → SizesSmall (c .sizes-of .result)
 small c =
     let s = start c in
-    rw (c .sizes-of .ensures) (sizes-small (s .args .r .probe) (s .args .k) (s .args .a .part) (s .args .a .raws) (passed s .1))
+    rw (c .sizes-of .ensures) (sizes-small (s .args .r .probe) (s .args .k) (s .args .a .probing) (s .args .a .raws) (passed s .1))
 
 -- the empirical value as i64, and its size
 module _ (c : tie.After-struct-told) where

@@ -4,7 +4,7 @@ use lib.Signed.{leZ}
 use borrow.Author.Needs.{needs}
 use Rattle.signed.specs.Ranges.{size}
 use Rattle.signed.specs.CodeLaws.{read}
-use Rattle.package.specs.declared.Kind.{Kind}
+use Rattle.package.specs.declared.found.Kind.{Kind}
 use Rattle.rules.specs.Stores.{wearRange}
 use Rattle.rules.specs.Sizes.{pairsOk}
 use Rattle.tool_offset.proofs.tool_tests.Statement.{statement}
@@ -35,7 +35,7 @@ returns c =
     let f = s .args .f in
     let l = s .args .a .limits in
     let far = read (m .magnitude .result) (m .magnitude .ok) ∙ m .magnitude .ensures ∙ ap size (read (f .deviation) (m .before .struct-told .given .1 .1 .1 .0 .1)) in
-    let pairs = w .widths-ok .ensures ∙ ap (λ (k : Kind). pairsOk k (s .args .a .part) (f .sizes)) (s .pre .0) in
+    let pairs = w .widths-ok .ensures ∙ ap (λ (k : Kind). pairsOk k (s .args .a .probing) (f .sizes)) (s .pre .0) in
     let tsa = read (l .tsa) (t2 .struct-told2 .given .1 .1 .1 .1 .1 .1 .0 .1 .1 .1 .1 .1 .1 .1 .0 .1) in
     let tdif = read (l .tdif) (t3 .struct-told3 .given .1 .1 .1 .1 .1 .1 .0 .1 .1 .1 .1 .1 .1 .0 .1) in
     let range = c .in-range .ensures ∙ ap wearRange (read (f .wear) (t4 .struct-told4 .given .1 .1 .1 .1 .1 .0 .1)) in

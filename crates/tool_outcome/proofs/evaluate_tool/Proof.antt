@@ -6,12 +6,12 @@ use Prim.Native.Nat.{ℕ}
 use lib.IntN.{ℤ}
 use borrow.Author.Needs.{needs}
 use Rattle.signed.specs.CodeLaws.{read}
-use Rattle.package.specs.declared.Kind.{Kind}
-use Rattle.package.specs.declared.Wear.{Wear}
-use Rattle.package.specs.declared.Tests.{Tests}
-use Rattle.package.specs.declared.Found.{Found}
-use Rattle.package.specs.declared.ToolMeasurement.{ToolMeasurement}
-use Rattle.package.specs.declared.ToolRecords.{ToolRecords}
+use Rattle.package.specs.declared.found.Kind.{Kind}
+use Rattle.package.specs.declared.records.Wear.{Wear}
+use Rattle.package.specs.declared.found.Tests.{Tests}
+use Rattle.package.specs.declared.found.Found.{Found}
+use Rattle.package.specs.declared.arguments.ToolMeasurement.{ToolMeasurement}
+use Rattle.package.specs.declared.found.ToolRecords.{ToolRecords}
 use Rattle.rules.specs.Stores.{means, tools}
 use Rattle.rules.specs.Refusals.{first}
 use Rattle.rules.specs.RefusalLaws.{first-later}
@@ -35,7 +35,7 @@ module _ (r : ToolRecords) (a : ToolMeasurement) {f : Found} (found : f ≡ tool
   decided-by z e = e ∙ ap (λ (f : Found). first (recordRules (foundTests a f))) found ∙ sym (first-later (toolArguments a) (recordRules (toolTests r a)) tt z)
 
   -- what is written is what the call changes
-  changes-are : {k : Kind} {w : Wear} → k ≡ toolKindOf a → w ≡ withWearOn (onLength k (a .part .axis)) (r .wear) (f .wear)
+  changes-are : {k : Kind} {w : Wear} → k ≡ toolKindOf a → w ≡ withWearOn (onLength k (a .probing .axis)) (r .wear) (f .wear)
       → write means (a .mv) (f .decision .mean) ∷ write tools (a .tool) w ∷ [] ≡ meaning (measureTool a lent 0) .changes r
   unfolding wearsLeft
   changes-are kind e = rw (e, kind, found)

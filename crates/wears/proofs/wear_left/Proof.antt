@@ -9,9 +9,9 @@ use Rattle.signed.specs.Differences.{ints, parts}
 use Rattle.signed.specs.Ranges.{minus}
 use Rattle.signed.specs.CodeLaws.{read}
 use Rattle.signed.specs.Expressions.{Ex, at, bound, add, mul, Runs, run}
-use Rattle.package.specs.declared.Form.{Form}
-use Rattle.package.specs.declared.Form.the-variants.{Plane, Single, Double}
-use Rattle.package.specs.declared.Kind.{Kind}
+use Rattle.package.specs.declared.found.Form.{Form}
+use Rattle.package.specs.declared.found.Form.the-variants.{Plane, Single, Double}
+use Rattle.package.specs.declared.found.Kind.{Kind}
 use Rattle.rules.specs.Probes.{sign}
 use Rattle.rules.specs.ProbeLaws.{sign-size}
 use Rattle.rules.specs.Kinds.{byForm}

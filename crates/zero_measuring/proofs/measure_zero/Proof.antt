@@ -7,7 +7,7 @@ use borrow.Author.Needs.{needs}
 use borrow.Author.Tests.{leb-true}
 use Rattle.signed.specs.CodeLaws.{read, failed, passed}
 use Rattle.lists.specs.Written.{written}
-use Rattle.package.specs.declared.ZeroMeasurement.{ZeroMeasurement}
+use Rattle.package.specs.declared.arguments.ZeroMeasurement.{ZeroMeasurement}
 use Rattle.rules.specs.Refusals.{first}
 use Rattle.rules.specs.Stores.{Package}
 use Rattle.rules.specs.Zero.{zeroKindOf, zeroRules}
@@ -63,7 +63,7 @@ module _ (c : tie.After-zero-kind-of) where
   room = passed (at-room .before .has-room .ensures) (at-room .if2 .left)
 
   kind-is : c .zero-kind-of .result ≡ zeroKindOf (start .args .a)
-  kind-is = rw (read (start .args .a .part .kind) (c .before .struct-told .given .0 .1)) at (c .zero-kind-of .ensures)
+  kind-is = rw (read (start .args .a .probing .kind) (c .before .struct-told .given .0 .1)) at (c .zero-kind-of .ensures)
 
   has-place : start .args .place + 42 ≤ length (start .args .results .now)
   has-place = leb-true (start .args .place + 42) (length (start .args .results .now)) room

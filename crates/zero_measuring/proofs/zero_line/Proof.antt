@@ -30,7 +30,7 @@ whole c = c .before .before .before .before
 evaluate-zero-requires : tie.Need-evaluate-zero-requires
 evaluate-zero-requires c κs =
     let e = whole c in
-    (e .if1 .left, rw (read (e .before .args .a .part .kind) (c .before .struct-told .given .0 .1)) at (c .zero-kind-of .ensures))
+    (e .if1 .left, rw (read (e .before .args .a .probing .kind) (c .before .struct-told .given .0 .1)) at (c .zero-kind-of .ensures))
 
 -- ---- what became of it, by the arms
 module _ (c : tie.After-area) where

@@ -4,10 +4,10 @@ use mathlib.Core.Bool.{true}
 use mathlib.Core.List.{[], _∷_}
 use Prim.Native.Nat.{ℕ}
 use borrow.Author.Needs.{needs}
-use Rattle.package.specs.declared.Offset.{Offset}
-use Rattle.package.specs.declared.Tests.{Tests}
-use Rattle.package.specs.declared.ZeroMeasurement.{ZeroMeasurement}
-use Rattle.package.specs.declared.ZeroRecords.{ZeroRecords}
+use Rattle.package.specs.declared.records.Offset.{Offset}
+use Rattle.package.specs.declared.found.Tests.{Tests}
+use Rattle.package.specs.declared.arguments.ZeroMeasurement.{ZeroMeasurement}
+use Rattle.package.specs.declared.found.ZeroRecords.{ZeroRecords}
 use Rattle.rules.specs.Stores.{offsets}
 use Rattle.rules.specs.Refusals.{first}
 use Rattle.rules.specs.RefusalLaws.{first-later}

@@ -1,0 +1,59 @@
+// What the calls are given.
+
+// What a calibration is given.
+pub struct Calibration {
+    pub probe: i64,
+    pub axis: i64,
+    pub direction: i64,
+    pub setpoint: i64,
+    pub raw: i64,
+    pub tzl: i64,
+    pub tsa: i64,
+}
+
+// The raws of a measurement.
+pub struct Raws {
+    pub r1: i64,
+    pub r2: i64,
+    pub r3: i64,
+    pub r4: i64,
+}
+
+// What both ways of measuring are given beside their raws: c1 and c2 are set centres.
+pub struct Probing {
+    pub kind: i64,
+    pub probe: i64,
+    pub axis: i64,
+    pub direction: i64,
+    pub setpoint: i64,
+    pub c1: i64,
+    pub c2: i64,
+}
+
+pub struct Limits {
+    pub tzl: i64,
+    pub tmv: i64,
+    pub tul: i64,
+    pub tll: i64,
+    pub tdif: i64,
+    pub tsa: i64,
+}
+
+// What a measurement with tool offset is given; k is the weighting factor.
+pub struct ToolMeasurement {
+    pub probing: Probing,
+    pub raws: Raws,
+    pub tool: i64,
+    pub ev: i64,
+    pub mv: i64,
+    pub k: i64,
+    pub limits: Limits,
+}
+
+// What a measurement with zero offset is given.
+pub struct ZeroMeasurement {
+    pub probing: Probing,
+    pub raws: Raws,
+    pub offset: i64,
+    pub tsa: i64,
+}
