@@ -1,19 +1,14 @@
--- The calls that take their arguments as numbers: a calibration by seven, a measurement by a list in the order of the fields of a T or Z line. Beyond
--- document 01's refusals, 100 is an area of another length and 101 arguments that are not as many as a measurement's; every lent buffer stays.
+-- A measurement by a list of numbers in the order of the fields of a T or Z line. Beyond document 01's refusals, 100 is an area of another length and 101
+-- arguments that are not as many as a measurement's; every lent buffer stays.
 use mathlib.Core.Bool.{cond}
 use mathlib.Core.List.{List}
 use Prim.Native.Nat.{ℕ}
 use lib.Dec.{eqb}
 use lib.IntN.{ℤ}
 use lib.ListN.{length}
-use Rattle.package.specs.declared.arguments.Calibration.{Calibration}
 use Rattle.arguments.specs.Arguments.{toolOf, zeroOf}
 use Rattle.area.specs.Called.{wholeArea}
 use Rattle.measuring.specs.Reply.{Reply, reply, undecided, toolReplied, zeroReplied}
-
-abbrev pub calibration : (probe axis direction setpoint raw tzl tsa : ℤ) → Calibration
-calibration probe axis direction setpoint raw tzl tsa =
-    record { probe = probe; axis = axis; direction = direction; setpoint = setpoint; raw = raw; tzl = tzl; tsa = tsa }
 
 -- a measurement of so many arguments, by what it replies where they are as many
 abbrev pub exported : (area numbers results : List ℤ) (count : ℕ) → Reply → Reply

@@ -3,7 +3,7 @@ use area::AREA;
 use area::WRONG_AREA;
 use arguments::tool_of;
 use arguments::zero_of;
-use calibrating::calibrate;
+use calibrating::calibrate_by;
 use calibrating::probe_status;
 use jobs::Ran;
 use jobs::run_job;
@@ -11,7 +11,6 @@ use measuring::Decided;
 use measuring::not_decided;
 use memory::load;
 use memory::save;
-use package::arguments::Calibration;
 use package::records::Status;
 use settings::fresh;
 use settings::set_empirical;
@@ -20,13 +19,14 @@ use settings::set_wear;
 use tool_measuring::measure_tool;
 use zero_measuring::measure_zero;
 ghost use mathlib.Core.Path.{_≡_};
+ghost use Rattle.rules.specs.Calibration.{calibration};
 ghost use Rattle.rules.specs.Calls.{setEmpirical, setWear, setOffset, calibrate, load};
 ghost use Rattle.area.specs.Called.{unmeasured, called, freshCalled};
 ghost use Rattle.calibrating.specs.StatusRead.{statusCalled};
 ghost use Rattle.memory.specs.Saved.{savedAs, saveCalled};
 ghost use Rattle.measuring.specs.Reply.{reply};
 ghost use Rattle.jobs.specs.Jobs.{jobLeft, jobCalled};
-ghost use Rattle.boundary.specs.Exported.{calibration, toolExported, zeroExported};
+ghost use Rattle.boundary.specs.Exported.{toolExported, zeroExported};
 
 // The refusal of arguments that are not as many as a measurement's, and how many these are.
 pub const WRONG_ARGUMENTS: u32 = 101;
@@ -87,16 +87,7 @@ pub extern "C" fn mezhtolik_calibrate(
 ) -> u32
     ensures { λ r. ⌜ unmeasured r (now (area .exit)) ≡ called (now (area .entry)) (calibrate (calibration probe axis direction setpoint raw tzl tsa)) ⌝ }
 {
-    let a = Calibration {
-        probe,
-        axis,
-        direction,
-        setpoint,
-        raw,
-        tzl,
-        tsa,
-    };
-    calibrate(area, a)
+    calibrate_by(area, probe, axis, direction, setpoint, raw, tzl, tsa)
 }
 
 // The bits of a probe's status and the number of directions calibrated.
