@@ -27,7 +27,8 @@ module _ {area : List ℤ} {s : StoreName} {n : ℤ} (k : Known area s n) where
   held-at = sym (at-held area (omega (arith, k .whole)) s n (k .named-in))
 
   -- what `number_at` asks, and a number that it gave
-  pub asked : (j : ℕ) → j < sectionOf s .width → (end (sectionOf s) ≤ length area) × ((named (sectionOf s) (toZ w64 (ofZ w64 n)) ≡ true) × (j < sectionOf s .width))
+  pub asked : (j : ℕ) → j < sectionOf s .width
+      → (end (sectionOf s) ≤ length area) × ((named (sectionOf s) (toZ w64 (ofZ w64 n)) ≡ true) × (j < sectionOf s .width))
   asked j h = (section-in area (omega (arith, k .whole)) s, (rw (toZ-ofZ (k .fits)) (k .named-in), h))
 
   pub given : (j : ℕ) {r : ℤ} → mag r < 2147483648 → r ≡ number (recordOf (sectionOf s) area (toZ w64 (ofZ w64 n))) j

@@ -17,9 +17,9 @@ use results::write_results;
 use tool_outcome::ToolOutcome;
 use tool_outcome::evaluate_tool;
 ghost use mathlib.Core.Path.{_≡_};
+ghost use Rattle.rules.specs.Measuring.{lent};
 ghost use Rattle.rules.specs.Calls.{measureTool};
 ghost use Rattle.area.specs.Called.{answered, called};
-ghost use Rattle.rules.specs.Measuring.{lent};
 ghost use Rattle.measuring.specs.Reply.{reply, toolReplied};
 
 // Measures for a line of a job: nobody reads its 42 numbers.

@@ -17,9 +17,9 @@ use zero_offset::zero_kind_of;
 use zero_outcome::ZeroOutcome;
 use zero_outcome::evaluate_zero;
 ghost use mathlib.Core.Path.{_≡_};
+ghost use Rattle.rules.specs.Measuring.{lent};
 ghost use Rattle.rules.specs.Calls.{measureZero};
 ghost use Rattle.area.specs.Called.{answered, called};
-ghost use Rattle.rules.specs.Measuring.{lent};
 ghost use Rattle.measuring.specs.Reply.{reply, zeroReplied};
 
 // Measures for a line of a job: nobody reads its 42 numbers.

@@ -7,7 +7,8 @@ use Rattle.evaluation.proofs.difference_of.Tie as tie
 
 abbrev difference : (c : tie.Start) → Ex w64
 difference c =
-    sub (sub (bound (c .args .h .size) 20200000 (c .pre .0) tt) (at (c .args .ev) 32768 (c .fits .ev) (c .pre .2))) (bound (c .args .h .setpoint) 10000000 (c .pre .1) tt)
+    sub (sub (bound (c .args .h .size) 20200000 (c .pre .0) tt) (at (c .args .ev) 32768 (c .fits .ev) (c .pre .2)))
+    (bound (c .args .h .setpoint) 10000000 (c .pre .1) tt)
 
 runs : (c : tie.Start) → Runs (difference c)
 runs c = run (difference c) tt (search)

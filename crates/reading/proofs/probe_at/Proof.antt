@@ -1,5 +1,5 @@
 -- The seven numbers of the record, and the probe that is read from them.
-use mathlib.Core.Path.{_≡_, ap, _∙_}
+use mathlib.Core.Path.{ap, _∙_}
 use native.Mathlib.Omega.{arith}
 use borrow.Author.Needs.{needs}
 use Rattle.signed.specs.RangeLaws.{or-zero}

@@ -43,8 +43,10 @@ returns c =
     let s = t1 .before .before in
     let a = s .args .a in
     let area = s .args .area .now in
-    let ev : Known area empiricals (a .ev) = record { whole = s .pre .0; named-in = s .pre .1 .ev; fits = record { sfits = t2 .struct-told2 .given .1 .1 .1 .0 .1 } } in
-    let mv : Known area means (a .mv) = record { whole = s .pre .0; named-in = s .pre .1 .mv; fits = record { sfits = t3 .struct-told3 .given .1 .1 .1 .1 .0 .1 } } in
+    let ev : Known area empiricals (a .ev) =
+    record { whole = s .pre .0; named-in = s .pre .1 .ev; fits = record { sfits = t2 .struct-told2 .given .1 .1 .1 .0 .1 } } in
+    let mv : Known area means (a .mv) =
+    record { whole = s .pre .0; named-in = s .pre .1 .mv; fits = record { sfits = t3 .struct-told3 .given .1 .1 .1 .1 .0 .1 } } in
     rw (
       rw (read (a .probing .probe) (t1 .struct-told .given .1 .0 .1)) at (x .probe-at .ensures),
       read-as w16 (e .value-at .result) (e .value-at .ok) ∙ (rw (toZ-ofZ (ev .fits)) at (e .value-at .ensures)) ∙ held-at ev,

@@ -25,14 +25,16 @@ size-numbers-requires c κs =
     let h = s .pre .1 .0 .numbers in
     let f = s .pre .1 .1 in
     rw (read (s .args .f .ev) (c .struct-told .given .1 .1 .0 .1), s .pre .0)
-    (both-small (toolKindOf a) (a .probing) (s .args .f .sizes) (s .args .f .ev) (h .numbers) (omega (arith, number-size 0 4 (a .probing .kind) (h .kind))) (f .sizes) (f .ev))
+    (both-small (toolKindOf a) (a .probing) (s .args .f .sizes) (s .args .f .ev) (h .numbers) (omega (arith, number-size 0 4 (a .probing .kind) (h .kind)))
+    (f .sizes) (f .ev))
 
 -- the size of a number, by its place in the list of entries
 sized : (c : tie.Start) (i : ℕ) → i < 13
     → natAbs (getD (toolEntries (c .args .a) (c .args .f .sizes) (c .args .f .ev) (c .args .f .decision)) i (ovr 0 (pos 0)) .number) ≤ 1000000000
 sized c i h =
     let f = c .args .f in
-    each-at (λ e. natAbs (e .number) ≤ 1000000000) (toolEntries (c .args .a) (f .sizes) (f .ev) (f .decision)) i (ovr 0 (pos 0)) (tool-small (c .args .a) f (c .pre .1 .0) (c .pre .1 .1)) h
+    each-at (λ e. natAbs (e .number) ≤ 1000000000) (toolEntries (c .args .a) (f .sizes) (f .ev) (f .decision)) i (ovr 0 (pos 0))
+    (tool-small (c .args .a) f (c .pre .1 .0) (c .pre .1 .1)) h
 
 -- the arguments, from each number on
 abbrev from1 : tie.After-struct-told3 → tie.Start
@@ -78,14 +80,21 @@ from13 c = from12 (c .before .before)
 abbrev raised : tie.Start → ℤ → ℤ
 raised s t = s .args .f .sizes .held .setpoint +ℤ t
 
-raised-read : (s : tie.Start) (t : ℤ) → toZ w64 (ofZ w64 t) ≡ t → toZ w64 (ofZ w64 (s .args .f .sizes .held .setpoint)) +ℤ toZ w64 (ofZ w64 t) ≡ raised s t
+abbrev Raised : tie.Start → ℤ → Type 0
+Raised s t = toZ w64 (ofZ w64 (s .args .f .sizes .held .setpoint)) +ℤ toZ w64 (ofZ w64 t) ≡ raised s t
+
+raised-read : (s : tie.Start) (t : ℤ) → toZ w64 (ofZ w64 t) ≡ t → Raised s t
 raised-read s t e = rw (e, toZ-ofZ (small-fits (s .args .f .sizes .held .setpoint) (omega (arith, s .pre .1 .1 .sizes .setpoint))))
 
-upper : (c : tie.After-struct-told3) → let s = from1 c in toZ w64 (ofZ w64 (s .args .f .sizes .held .setpoint)) +ℤ toZ w64 (ofZ w64 (s .args .a .limits .tul)) ≡ raised s (s .args .a .limits .tul)
-upper c = let s = from1 c in raised-read s (s .args .a .limits .tul) (read (s .args .a .limits .tul) (c .struct-told3 .given .1 .1 .1 .1 .1 .1 .0 .1 .1 .1 .1 .0 .1))
+upper : (c : tie.After-struct-told3) → Raised (from1 c) (from1 c .args .a .limits .tul)
+upper c =
+    let l = from1 c .args .a .limits in
+    raised-read (from1 c) (l .tul) (read (l .tul) (c .struct-told3 .given .1 .1 .1 .1 .1 .1 .0 .1 .1 .1 .1 .0 .1))
 
-lower : (c : tie.After-struct-told5) → let s = from2 c in toZ w64 (ofZ w64 (s .args .f .sizes .held .setpoint)) +ℤ toZ w64 (ofZ w64 (s .args .a .limits .tll)) ≡ raised s (s .args .a .limits .tll)
-lower c = let s = from2 c in raised-read s (s .args .a .limits .tll) (read (s .args .a .limits .tll) (c .struct-told5 .given .1 .1 .1 .1 .1 .1 .0 .1 .1 .1 .1 .1 .0 .1))
+lower : (c : tie.After-struct-told5) → Raised (from2 c) (from2 c .args .a .limits .tll)
+lower c =
+    let l = from2 c .args .a .limits in
+    raised-read (from2 c) (l .tll) (read (l .tll) (c .struct-told5 .given .1 .1 .1 .1 .1 .1 .0 .1 .1 .1 .1 .1 .0 .1))
 
 returns : tie.Need-returns
 unfolding toolFilled

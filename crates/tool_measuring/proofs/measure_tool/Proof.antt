@@ -1,4 +1,4 @@
-use mathlib.Core.Path.{_≡_, subst, ap, _∙_}
+use mathlib.Core.Path.{_≡_, sym, subst, ap, _∙_}
 use mathlib.Core.Bool.{true}
 use Prim.Native.Nat.{_+_, _≤_}
 use lib.Dec.{leb}
@@ -13,10 +13,10 @@ use Rattle.rules.specs.Stores.{Package}
 use Rattle.rules.specs.Tool.{toolKindOf, toolRules}
 use Rattle.rules.specs.Passed.{tool-passed}
 use Rattle.rules.specs.Results.{toolEvaluation, toolFilled}
+use Rattle.rules.specs.Measuring.{lent}
 use Rattle.rules.specs.Calls.{measureTool, toolRead, refusal}
 use Rattle.rules.specs.EvaluationLaws.{refusal-small}
 use Rattle.area.specs.Table.{held}
-use Rattle.rules.specs.Measuring.{lent}
 use Rattle.measuring.specs.ReplyLaws.{Way, toolWay, wrong-area, no-room, refused, done}
 use Rattle.tool_outcome.specs.Outcome.{ToolEvaluated}
 use Rattle.tool_outcome.specs.declared.ToolOutcome.{ToolOutcome}
@@ -79,8 +79,36 @@ module _ (c : tie.After-area) where
   abbrev from : tie.Start
   from = start (kind c)
 
-  outcome-is : {o : ToolOutcome} → c .before .evaluate-tool .result ≡ o → ToolEvaluated (from .args .a) (from .args .area .now) (c .before .evaluate-tool .last .0) o
+  outcome-is : {o : ToolOutcome} → c .before .evaluate-tool .result ≡ o
+      → ToolEvaluated (from .args .a) (from .args .area .now) (c .before .evaluate-tool .last .0) o
   outcome-is e = subst (ToolEvaluated (from .args .a) (from .args .area .now) (c .before .evaluate-tool .last .0)) e (c .before .evaluate-tool .ensures)
+
+returns-3 : tie.Need-returns-3
+returns-3 c =
+    let w = c .before .before in
+    let n = w .before .before in
+    let o = n .before .before in
+    let m = o .before .before in
+    let k = kind m in
+    let s = from m in
+    let h = outcome-is m (o .outcome .given .1) in
+    rw (c .not-decided3 .ensures)
+    (refused (way s) (at-whole k .if1 .left) (room k) (h .0) (h .1)
+    (w .write-results .ensures ∙ ap (written (s .args .results .now) (s .args .place)) (n .refused-numbers .ensures)))
+
+returns-4 : tie.Need-returns-4
+returns-4 c =
+    let w = c .before .before in
+    let n = w .before .before in
+    let o = n .before .before in
+    let m = o .before .before in
+    let k = kind m in
+    let s = from m in
+    let a = s .args .a in
+    let h = outcome-is m (o .outcome2 .given .1) in
+    let numbers = n .tool-numbers .ensures ∙ ap (toolFilled a) (h .1 .0) in
+    done (way s) (at-whole k .if1 .left) (room k) (h .0) (c .tool-evaluation .ensures ∙ ap (toolEvaluation a) (h .1 .0))
+    (w .write-results2 .ensures ∙ ap (written (s .args .results .now) (s .args .place)) numbers)
 
 enum-known-outcome : tie.Need-enum-known-outcome
 enum-known-outcome c = search needs
@@ -94,7 +122,7 @@ refused-numbers-requires c κs =
     let o = c .before in
     let m = o .before .before in
     let s = from m in
-    rw (outcome-is m (o .outcome .given .1) .number) (small (held (s .args .area .now)) (s .args .a))
+    rw (outcome-is m (o .outcome .given .1) .0 .refusal) (small (held (s .args .area .now)) (s .args .a))
 
 write-results-requires : tie.Need-write-results-requires
 write-results-requires c κs = has-place (kind (c .before .before .before .before .before))
@@ -111,7 +139,7 @@ tool-numbers-requires c κs =
     let m = o .before .before in
     let s = from m in
     let h = outcome-is m (o .outcome2 .given .1) in
-    (kind-is (kind m), (tool-passed (toolRead (held (s .args .area .now)) (s .args .a)) (s .args .a) (h .0 .none) .arguments, h .2))
+    (kind-is (kind m), (tool-passed (toolRead (held (s .args .area .now)) (s .args .a)) (s .args .a) (sym (h .0 .refusal)) .arguments, h .1 .1))
 
 write-results-requires-2 : tie.Need-write-results-requires-2
 write-results-requires-2 c κs = has-place (kind (c .before .before .before .before .before))
@@ -119,7 +147,7 @@ write-results-requires-2 c κs = has-place (kind (c .before .before .before .bef
 tool-evaluation-requires : tie.Need-tool-evaluation-requires
 tool-evaluation-requires c κs =
     let o = c .before .before .before .before .before in
-    outcome-is (o .before .before) (o .outcome2 .given .1) .2
+    outcome-is (o .before .before) (o .outcome2 .given .1) .1 .1
 
 same-length : tie.Need-same-length
 same-length c = search needs
@@ -127,37 +155,11 @@ same-length c = search needs
 same-length-2 : tie.Need-same-length-2
 same-length-2 c = search needs
 
-returns-3 : tie.Need-returns-3
-returns-3 c =
-    let w = c .before .before in
-    let n = w .before .before in
-    let o = n .before .before in
-    let m = o .before .before in
-    let k = kind m in
-    let s = from m in
-    let h = outcome-is m (o .outcome .given .1) in
-    rw (c .not-decided3 .ensures, h .kept)
-    (refused (way s) (at-whole k .if1 .left) (room k) (h .number) (h .some) (w .write-results .ensures ∙ ap (written (s .args .results .now) (s .args .place)) (n .refused-numbers .ensures)))
-
 same-length-3 : tie.Need-same-length-3
 same-length-3 c = search needs
 
 same-length-4 : tie.Need-same-length-4
 same-length-4 c = search needs
-
-returns-4 : tie.Need-returns-4
-returns-4 c =
-    let w = c .before .before in
-    let n = w .before .before in
-    let o = n .before .before in
-    let m = o .before .before in
-    let k = kind m in
-    let s = from m in
-    let a = s .args .a in
-    let h = outcome-is m (o .outcome2 .given .1) in
-    let numbers = n .tool-numbers .ensures ∙ ap (toolFilled a) (h .1) in
-    done (way s) (at-whole k .if1 .left) (room k) (h .0 .none) (c .tool-evaluation .ensures ∙ ap (toolEvaluation a) (h .1)) (h .0 .renewed)
-    (w .write-results2 .ensures ∙ ap (written (s .args .results .now) (s .args .place)) numbers)
 
 pub measure-tool-spec : {M : Type 1} → statement M
 measure-tool-spec =

@@ -1,4 +1,4 @@
-use mathlib.Core.Path.{_≡_, ap, _∙_}
+use mathlib.Core.Path.{ap, _∙_}
 use native.Mathlib.Omega.{arith}
 use lib.Signed.{leZ}
 use borrow.Author.Needs.{needs}
@@ -34,7 +34,8 @@ returns c =
     let s = m .before .before .before .before in
     let f = s .args .f in
     let l = s .args .a .limits in
-    let far = read (m .magnitude .result) (m .magnitude .ok) ∙ m .magnitude .ensures ∙ ap size (read (f .deviation) (m .before .struct-told .given .1 .1 .1 .0 .1)) in
+    let far = read (m .magnitude .result) (m .magnitude .ok) ∙ m .magnitude .ensures
+    ∙ ap size (read (f .deviation) (m .before .struct-told .given .1 .1 .1 .0 .1)) in
     let pairs = w .widths-ok .ensures ∙ ap (λ (k : Kind). pairsOk k (s .args .a .probing) (f .sizes)) (s .pre .0) in
     let tsa = read (l .tsa) (t2 .struct-told2 .given .1 .1 .1 .1 .1 .1 .0 .1 .1 .1 .1 .1 .1 .1 .0 .1) in
     let tdif = read (l .tdif) (t3 .struct-told3 .given .1 .1 .1 .1 .1 .1 .0 .1 .1 .1 .1 .1 .1 .0 .1) in

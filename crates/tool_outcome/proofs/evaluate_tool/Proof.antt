@@ -1,9 +1,7 @@
 -- The arguments' rules come first; where they pass, the records' rules decide, and where these pass the changes are those of the call.
-use mathlib.Core.Path.{_≡_, refl, sym, ap, _∙_}
-use mathlib.Core.Bool.{true}
-use mathlib.Core.List.{List, [], _∷_}
+use mathlib.Core.Path.{_≡_, sym, ap, _∙_}
+use mathlib.Core.List.{[], _∷_}
 use Prim.Native.Nat.{ℕ}
-use lib.IntN.{ℤ}
 use borrow.Author.Needs.{needs}
 use Rattle.signed.specs.CodeLaws.{read}
 use Rattle.package.specs.declared.found.Kind.{Kind}
@@ -15,15 +13,14 @@ use Rattle.package.specs.declared.found.ToolRecords.{ToolRecords}
 use Rattle.rules.specs.Stores.{means, tools}
 use Rattle.rules.specs.Refusals.{first}
 use Rattle.rules.specs.RefusalLaws.{first-later}
-use Rattle.rules.specs.Measuring.{recordRules}
+use Rattle.rules.specs.Measuring.{lent, recordRules}
 use Rattle.rules.specs.Tool.{toolKindOf, onLength, withWearOn, toolArguments, toolTests, foundTests, toolFound, toolRules, wearsLeft}
 use Rattle.rules.specs.Passed.{ToolArgumentsPassed, tool-arguments-passed, TestsPassed, tests-passed}
-use Rattle.rules.specs.Changes.{Change, write}
+use Rattle.rules.specs.Changes.{write}
 use Rattle.rules.specs.Calls.{measureTool, meaning, toolRead}
 use Rattle.area.specs.Table.{held}
 use Rattle.area.specs.Renewed.{renewedAll}
-use Rattle.rules.specs.Measuring.{lent}
-use Rattle.measuring.specs.ReplyLaws.{argument-refusal}
+use Rattle.measuring.specs.ReplyLaws.{argument-refusal, refused-keeps}
 use Rattle.tool_outcome.proofs.evaluate_tool.Statement.{statement}
 use Rattle.tool_outcome.proofs.evaluate_tool.Tie as tie
 
@@ -46,8 +43,12 @@ tool-refusal-requires c κs = c .before .pre .1
 returns : tie.Need-returns
 returns c =
     let s = c .before .before .before in
-    let a = s .args .a in
-    record { number = argument-refusal (toolArguments a) (toolTests (toolRead (held (s .args .area .now)) a) a) (c .before .tool-refusal .ensures) (c .if1 .taken); some = c .if1 .taken; kept = refl }
+    let a = s .args .a in (
+      refused-keeps (s .args .area .now)
+          (argument-refusal (toolArguments a) (toolTests (toolRead (held (s .args .area .now)) a) a) (c .before .tool-refusal .ensures) (c .if1 .taken))
+          (c .if1 .taken),
+      c .if1 .taken,
+    )
 
 -- ---- where the arguments passed
 abbrev start : tie.Else1 → tie.Start
@@ -88,10 +89,11 @@ module _ (c : tie.After-records-refusal) where
   refusal-is = c .records-refusal .ensures ∙ ap (λ (t : Tests). first (recordRules t)) (c .before .tool-tests .ensures)
 
   number-is : c .records-refusal .result ≡ first (toolRules (toolRead (held (at-start .args .area .now)) (at-start .args .a)) (at-start .args .a))
-  number-is = decided-by (toolRead (held (at-start .args .area .now)) (at-start .args .a)) (at-start .args .a) found-is (none (at-found .before .before .before)) refusal-is
+  number-is = decided-by (toolRead (held (at-start .args .area .now)) (at-start .args .a)) (at-start .args .a) found-is
+      (none (at-found .before .before .before)) refusal-is
 
 returns-2 : tie.Need-returns-2
-returns-2 c = record { number = number-is (c .before); some = c .if2 .taken; kept = refl }
+returns-2 c = (refused-keeps (at-start (c .before) .args .area .now) (number-is (c .before)) (c .if2 .taken), c .if2 .taken)
 
 tests : (c : tie.Else2) → TestsPassed (foundTests (at-start (c .before) .args .a) (at-found (c .before) .tool-found .result))
 tests c = tests-passed (foundTests (at-start (c .before) .args .a) (at-found (c .before) .tool-found .result)) (sym (refusal-is (c .before)) ∙ c .if2 .left)
@@ -106,8 +108,14 @@ put-tool-requires : tie.Need-put-tool-requires
 put-tool-requires c κs =
     let e = c .before .before .before .before .before in
     let f = at-found (e .before) .tool-found in
-    let l = at-found (e .before) .before .before .before in
-    (start l .pre .0, (passed l .numbers, rw (read (f .result .decision .mean) (c .struct-told2 .given .1 .1 .1 .1 .0 .1 .1 .1 .1 .0 .1)) (f .ensures .1 .decision .mean)))
+    let l = at-found (e .before) .before .before .before in (
+      start l .pre .0,
+      (
+        passed l .numbers,
+        rw (read (f .result .decision .mean) (c .struct-told2 .given .1 .1 .1 .1 .0 .1 .1 .1 .1 .0 .1))
+            (f .ensures .1 .decision .mean),
+      ),
+    )
 
 same-length-2 : tie.Need-same-length-2
 same-length-2 c = search needs
@@ -126,8 +134,11 @@ returns-3 c =
     let r = at-found (e .before) .before .tool-records in
     let wear = rw (read (f .wear) (told .struct-told .given .1 .1 .1 .1 .1 .0 .1)) at (w .wears-left .ensures) in
     let left = rw (read (f .decision .mean) (told2 .struct-told2 .given .1 .1 .1 .1 .0 .1 .1 .1 .1 .0 .1)) at (p .put-tool .ensures) in
-    let changes = changes-are (r .result) a (found .ensures .0) (s .pre .1) wear ∙ ap (λ (r : ToolRecords). meaning (measureTool a lent 0) .changes r) (r .ensures) in
-    (record { none = sym (number-is (e .before)) ∙ e .if2 .left; renewed = left ∙ ap (renewedAll (s .args .area .now)) changes }, found-is (e .before), found .ensures .1)
+    let changes = changes-are (r .result) a (found .ensures .0) (s .pre .1) wear
+    ∙ ap (λ (r : ToolRecords). meaning (measureTool a lent 0) .changes r) (r .ensures) in (
+      record { refusal = sym (e .if2 .left) ∙ number-is (e .before); area = left ∙ ap (renewedAll (s .args .area .now)) changes },
+      (found-is (e .before), found .ensures .1),
+    )
 
 pub evaluate-tool-spec : {M : Type 1} → statement M
 evaluate-tool-spec =

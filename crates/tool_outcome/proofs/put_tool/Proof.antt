@@ -34,8 +34,10 @@ put-record-requires-2 : tie.Need-put-record-requires-2
 put-record-requires-2 c κs =
     let v = c .before .before .before .before .before in
     let s = v .before .before .before .before in
-    let n = s .pre .1 .0 .tool in
-    (omega (arith, s .pre .0, v .put-record .kept .0), (rw (read (s .args .a .tool) (c .struct-told3 .given .1 .1 .0 .1)) (or-zero 32 (s .args .a .tool) n), refl))
+    let n = s .pre .1 .0 .tool in (
+      omega (arith, s .pre .0, v .put-record .kept .0),
+      (rw (read (s .args .a .tool) (c .struct-told3 .given .1 .1 .0 .1)) (or-zero 32 (s .args .a .tool) n), refl),
+    )
 
 same-length : tie.Need-same-length
 same-length c = search needs
@@ -51,7 +53,12 @@ returns c =
     let mean = rw (value s .value, read (a .mv) (v .before .struct-told .given .1 .1 .1 .1 .0 .1)) at (v .put-record .ensures) in
     let wears = told .before .before .before .struct-told2 .given in
     let wear =
-    rw (read-as w32 (x .radius) (wears .0 .1), read-as w32 (x .length) (wears .1 .0 .1), read (a .tool) (told .struct-told3 .given .1 .1 .0 .1)) at (w .put-record2 .ensures) in
+    rw (
+      read-as w32 (x .radius) (wears .0 .1),
+      read-as w32 (x .length) (wears .1 .0 .1),
+      read (a .tool)
+          (told .struct-told3 .given .1 .1 .0 .1),
+    ) at (w .put-record2 .ensures) in
     wear ∙ ap (λ (zs : List ℤ). renewed zs (write tools (a .tool) x)) mean
 
 pub put-tool-spec : {M : Type 1} → statement M

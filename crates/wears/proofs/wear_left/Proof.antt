@@ -57,7 +57,8 @@ module _ (c : tie.After-factor-of) where
   abbrev left : Ex w64
   left =
       add (bound (wear .wear-on .result) 2147483648 (wear .wear-on .ensures .1) tt)
-      (mul (bound (c .factor-of .result) 2 (rw factor-is (factor-size (start .args .k) (start .args .a .direction))) tt) (at (start .args .c) 100000000 (start .fits .c) (start .pre)))
+      (mul (bound (c .factor-of .result) 2 (rw factor-is (factor-size (start .args .k) (start .args .a .direction))) tt)
+      (at (start .args .c) 100000000 (start .fits .c) (start .pre)))
 
   runs : Runs left
   runs = run left tt (search)
@@ -73,7 +74,8 @@ returns c =
     let a = start c .args .a in
     let l = wear c .before in
     let length = rw (read (a .axis) (l .before .struct-told .given .1 .1 .0 .1)) at (l .on-length .ensures) in
-    runs c .value ∙ ap₂ (λ (w f : ℤ). w +ℤ f *ℤ start c .args .c) (wear c .wear-on .ensures .0 ∙ ap (λ (b : Bool). wearOn b (start c .args .w)) length) (factor-is c)
+    runs c .value ∙ ap₂ (λ (w f : ℤ). w +ℤ f *ℤ start c .args .c) (wear c .wear-on .ensures .0 ∙ ap (λ (b : Bool). wearOn b (start c .args .w)) length)
+    (factor-is c)
 
 pub wear-left-spec : {M : Type 1} → statement M
 wear-left-spec = tie.close (tie.spec on-length-requires wear-on-requires factor-of-requires mul-result add-result returns)

@@ -1,4 +1,4 @@
-use mathlib.Core.Path.{_≡_, subst, ap, _∙_}
+use mathlib.Core.Path.{_≡_, sym, subst, ap, _∙_}
 use mathlib.Core.Bool.{true}
 use Prim.Native.Nat.{_+_, _≤_}
 use lib.Dec.{leb}
@@ -13,10 +13,10 @@ use Rattle.rules.specs.Stores.{Package}
 use Rattle.rules.specs.Zero.{zeroKindOf, zeroRules}
 use Rattle.rules.specs.Passed.{zero-passed}
 use Rattle.rules.specs.Results.{zeroEvaluation, zeroFilled}
+use Rattle.rules.specs.Measuring.{lent}
 use Rattle.rules.specs.Calls.{measureZero, zeroRead, refusal}
 use Rattle.rules.specs.EvaluationLaws.{refusal-small}
 use Rattle.area.specs.Table.{held}
-use Rattle.rules.specs.Measuring.{lent}
 use Rattle.measuring.specs.ReplyLaws.{Way, zeroWay, wrong-area, no-room, refused, done}
 use Rattle.zero_outcome.specs.Outcome.{ZeroEvaluated}
 use Rattle.zero_outcome.specs.declared.ZeroOutcome.{ZeroOutcome}
@@ -79,8 +79,36 @@ module _ (c : tie.After-area) where
   abbrev from : tie.Start
   from = start (kind c)
 
-  outcome-is : {o : ZeroOutcome} → c .before .evaluate-zero .result ≡ o → ZeroEvaluated (from .args .a) (from .args .area .now) (c .before .evaluate-zero .last .0) o
+  outcome-is : {o : ZeroOutcome} → c .before .evaluate-zero .result ≡ o
+      → ZeroEvaluated (from .args .a) (from .args .area .now) (c .before .evaluate-zero .last .0) o
   outcome-is e = subst (ZeroEvaluated (from .args .a) (from .args .area .now) (c .before .evaluate-zero .last .0)) e (c .before .evaluate-zero .ensures)
+
+returns-3 : tie.Need-returns-3
+returns-3 c =
+    let w = c .before .before in
+    let n = w .before .before in
+    let o = n .before .before in
+    let m = o .before .before in
+    let k = kind m in
+    let s = from m in
+    let h = outcome-is m (o .outcome .given .1) in
+    rw (c .not-decided3 .ensures)
+    (refused (way s) (at-whole k .if1 .left) (room k) (h .0) (h .1)
+    (w .write-results .ensures ∙ ap (written (s .args .results .now) (s .args .place)) (n .refused-numbers .ensures)))
+
+returns-4 : tie.Need-returns-4
+returns-4 c =
+    let w = c .before .before in
+    let n = w .before .before in
+    let o = n .before .before in
+    let m = o .before .before in
+    let k = kind m in
+    let s = from m in
+    let a = s .args .a in
+    let h = outcome-is m (o .outcome2 .given .1) in
+    let numbers = n .zero-numbers .ensures ∙ ap (zeroFilled a) (h .1 .0) in
+    done (way s) (at-whole k .if1 .left) (room k) (h .0) (c .zero-evaluation .ensures ∙ ap zeroEvaluation (h .1 .0))
+    (w .write-results2 .ensures ∙ ap (written (s .args .results .now) (s .args .place)) numbers)
 
 enum-known-outcome : tie.Need-enum-known-outcome
 enum-known-outcome c = search needs
@@ -94,7 +122,7 @@ refused-numbers-requires c κs =
     let o = c .before in
     let m = o .before .before in
     let s = from m in
-    rw (outcome-is m (o .outcome .given .1) .number) (small (held (s .args .area .now)) (s .args .a))
+    rw (outcome-is m (o .outcome .given .1) .0 .refusal) (small (held (s .args .area .now)) (s .args .a))
 
 write-results-requires : tie.Need-write-results-requires
 write-results-requires c κs = has-place (kind (c .before .before .before .before .before))
@@ -111,7 +139,7 @@ zero-numbers-requires c κs =
     let m = o .before .before in
     let s = from m in
     let h = outcome-is m (o .outcome2 .given .1) in
-    (kind-is (kind m), (zero-passed (zeroRead (held (s .args .area .now)) (s .args .a)) (s .args .a) (h .0 .none) .arguments, h .2))
+    (kind-is (kind m), (zero-passed (zeroRead (held (s .args .area .now)) (s .args .a)) (s .args .a) (sym (h .0 .refusal)) .arguments, h .1 .1))
 
 write-results-requires-2 : tie.Need-write-results-requires-2
 write-results-requires-2 c κs = has-place (kind (c .before .before .before .before .before))
@@ -119,7 +147,7 @@ write-results-requires-2 c κs = has-place (kind (c .before .before .before .bef
 zero-evaluation-requires : tie.Need-zero-evaluation-requires
 zero-evaluation-requires c κs =
     let o = c .before .before .before .before .before in
-    outcome-is (o .before .before) (o .outcome2 .given .1) .2
+    outcome-is (o .before .before) (o .outcome2 .given .1) .1 .1
 
 same-length : tie.Need-same-length
 same-length c = search needs
@@ -127,37 +155,11 @@ same-length c = search needs
 same-length-2 : tie.Need-same-length-2
 same-length-2 c = search needs
 
-returns-3 : tie.Need-returns-3
-returns-3 c =
-    let w = c .before .before in
-    let n = w .before .before in
-    let o = n .before .before in
-    let m = o .before .before in
-    let k = kind m in
-    let s = from m in
-    let h = outcome-is m (o .outcome .given .1) in
-    rw (c .not-decided3 .ensures, h .kept)
-    (refused (way s) (at-whole k .if1 .left) (room k) (h .number) (h .some) (w .write-results .ensures ∙ ap (written (s .args .results .now) (s .args .place)) (n .refused-numbers .ensures)))
-
 same-length-3 : tie.Need-same-length-3
 same-length-3 c = search needs
 
 same-length-4 : tie.Need-same-length-4
 same-length-4 c = search needs
-
-returns-4 : tie.Need-returns-4
-returns-4 c =
-    let w = c .before .before in
-    let n = w .before .before in
-    let o = n .before .before in
-    let m = o .before .before in
-    let k = kind m in
-    let s = from m in
-    let a = s .args .a in
-    let h = outcome-is m (o .outcome2 .given .1) in
-    let numbers = n .zero-numbers .ensures ∙ ap (zeroFilled a) (h .1) in
-    done (way s) (at-whole k .if1 .left) (room k) (h .0 .none) (c .zero-evaluation .ensures ∙ ap zeroEvaluation (h .1)) (h .0 .renewed)
-    (w .write-results2 .ensures ∙ ap (written (s .args .results .now) (s .args .place)) numbers)
 
 pub measure-zero-spec : {M : Type 1} → statement M
 measure-zero-spec =

@@ -1,6 +1,5 @@
 -- The arguments' rules come first; where they pass, the records' rules decide, and where these pass the change is that of the call.
-use mathlib.Core.Path.{_≡_, refl, sym, ap, _∙_}
-use mathlib.Core.Bool.{true}
+use mathlib.Core.Path.{_≡_, sym, ap, _∙_}
 use mathlib.Core.List.{[], _∷_}
 use Prim.Native.Nat.{ℕ}
 use borrow.Author.Needs.{needs}
@@ -19,12 +18,13 @@ use Rattle.rules.specs.Calls.{zeroRead}
 use Rattle.area.specs.Table.{held}
 use Rattle.area.specs.Renewed.{renewed}
 use Rattle.zero_offset.specs.Zero.{ZeroFound, found-small}
-use Rattle.measuring.specs.ReplyLaws.{argument-refusal}
+use Rattle.measuring.specs.ReplyLaws.{argument-refusal, refused-keeps}
 use Rattle.zero_outcome.proofs.evaluate_zero.Statement.{statement}
 use Rattle.zero_outcome.proofs.evaluate_zero.Tie as tie
 
 -- where the arguments passed, the tests of the records decide
-decided-by : (r : ZeroRecords) (a : ZeroMeasurement) → first (zeroArguments a) ≡ 0 → {n : ℕ} → n ≡ first (recordRules (zeroTests r a)) → n ≡ first (zeroRules r a)
+decided-by : (r : ZeroRecords) (a : ZeroMeasurement) → first (zeroArguments a) ≡ 0 → {n : ℕ} → n ≡ first (recordRules (zeroTests r a))
+    → n ≡ first (zeroRules r a)
 unfolding zeroArguments
 decided-by r a z e = e ∙ sym (first-later (zeroArguments a) (recordRules (zeroTests r a)) tt z)
 
@@ -35,12 +35,12 @@ zero-refusal-requires c κs = c .before .before .pre .1
 returns : tie.Need-returns
 returns c =
     let s = c .before .before .before .before in
-    let a = s .args .a in
-    record {
-      number = argument-refusal (zeroArguments a) (zeroTests (zeroRead (held (s .args .area .now)) a) a) (c .before .zero-refusal .ensures) (c .if1 .taken);
-      some = c .if1 .taken;
-      kept = refl;
-    }
+    let a = s .args .a in (
+      refused-keeps (s .args .area .now)
+          (argument-refusal (zeroArguments a) (zeroTests (zeroRead (held (s .args .area .now)) a) a) (c .before .zero-refusal .ensures) (c .if1 .taken))
+          (c .if1 .taken),
+      c .if1 .taken,
+    )
 
 -- ---- where the arguments passed
 abbrev start : tie.Else1 → tie.Start
@@ -101,7 +101,7 @@ module _ (c : tie.After-records-refusal) where
       ∙ ap (λ (r : ZeroRecords). first (zeroRules r arguments)) (at-records at-sizes .zero-records .ensures)
 
 returns-2 : tie.Need-returns-2
-returns-2 c = record { number = number-is (c .before); some = c .if2 .taken; kept = refl }
+returns-2 c = (refused-keeps (at-start (at-sizes (c .before)) .args .area .now) (number-is (c .before)) (c .if2 .taken), c .if2 .taken)
 
 offset-left-requires : tie.Need-offset-left-requires
 offset-left-requires c κs =
@@ -128,9 +128,12 @@ returns-3 c =
     let a = s .args .a in
     let r = at-records z .zero-records .ensures in
     let left = l .offset-left .ensures ∙ ap (λ (r : ZeroRecords). offsetLeft r a) r in (
-      record { none = sym (number-is q) ∙ e .if2 .left; renewed = p .put-zero .ensures ∙ ap (λ (o : Offset). renewed (s .args .area .now) (write offsets (a .offset) o)) left },
-      found z .sizes ∙ ap (λ (r : ZeroRecords). zeroSizes r a) r,
-      found-small (records q) a (found z),
+      record {
+        refusal = sym (e .if2 .left) ∙ number-is q;
+        area = p .put-zero .ensures
+            ∙ ap (λ (o : Offset). renewed (s .args .area .now) (write offsets (a .offset) o)) left;
+      },
+      (found z .sizes ∙ ap (λ (r : ZeroRecords). zeroSizes r a) r, found-small (records q) a (found z)),
     )
 
 pub evaluate-zero-spec : {M : Type 1} → statement M

@@ -10,8 +10,10 @@ slice-aggregate-put-record c = search needs
 
 put-record-requires : tie.Need-put-record-requires
 put-record-requires c κs =
-    let s = c .before .before .before .before in
-    (omega (arith, s .pre .0), (rw (read (s .args .a .offset) (c .struct-told .given .1 .1 .0 .1)) (or-zero 4 (s .args .a .offset) (s .pre .1 .offset)), search needs))
+    let s = c .before .before .before .before in (
+      omega (arith, s .pre .0),
+      (rw (read (s .args .a .offset) (c .struct-told .given .1 .1 .0 .1)) (or-zero 4 (s .args .a .offset) (s .pre .1 .offset)), search needs),
+    )
 
 same-length : tie.Need-same-length
 same-length c = search needs
