@@ -1,5 +1,5 @@
 -- A line's answer has at most 40 bytes.
-use Prim.Native.Nat.{ℕ, _≤_}
+use Prim.Native.Nat.{_≤_}
 use native.Mathlib.Omega.{arith}
 use lib.IntN.{natAbs}
 use lib.ListN.{length, length-append}

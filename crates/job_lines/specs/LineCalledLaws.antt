@@ -10,7 +10,7 @@ use Rattle.job_text.specs.Lines.{Said, malformed, says}
 use Rattle.job_text.specs.Fields.{saidIn}
 use Rattle.job_answers.specs.Answers.{row}
 use Rattle.job_answers.specs.declared.Row.{Row}
-use Rattle.job_lines.specs.LineCalled.{Ran, ranAs, lineRan}
+use Rattle.job_lines.specs.LineCalled.{ranAs, lineRan}
 
 pub call-ran : (area : List ℤ) (n : ℕ) (c : Call) {s : Said} {a : Called} {r : Row} → a ≡ called area c → r ≡ row n (a .refusal) (a .evaluation) → says c ≡ s
     → ranAs r (a .area) ≡ lineRan area n s

@@ -1,9 +1,9 @@
 -- Document 01, 'Units and stores' and the limits of 'Calibration' and 'Tolerance, mean, correction', in plain numbers: what a call that is done was given.
-use mathlib.Core.Path.{_≡_, refl}
-use mathlib.Core.Bool.{true, _&&_, and-eq-true-iff}
-use mathlib.Core.List.{List, [], _∷_}
+use mathlib.Core.Path.{_≡_}
+use mathlib.Core.Bool.{true, and-eq-true-iff}
+use mathlib.Core.List.{[], _∷_}
 use lib.IntN.{ℤ, pos}
-use Rattle.signed.specs.Ranges.{minus, within}
+use Rattle.signed.specs.Ranges.{minus}
 use Rattle.signed.specs.RangeLaws.{within-is}
 use lib.Signed.{_≤ℤ_}
 use Rattle.lists.specs.Each.{Each, every, every-each, each-so}
@@ -19,11 +19,11 @@ use Rattle.package.specs.declared.arguments.ZeroMeasurement.{ZeroMeasurement}
 use Rattle.package.specs.declared.found.ZeroRecords.{ZeroRecords}
 use Rattle.rules.specs.Stores.{positionRange, widthRange}
 use Rattle.rules.specs.StoreRanges.{Between}
-use Rattle.rules.specs.Refusals.{first, rising}
+use Rattle.rules.specs.Refusals.{first}
 use Rattle.rules.specs.RefusalLaws.{all-of, rising-is}
 use Rattle.rules.specs.Calibration.{calibrationRules}
 use Rattle.rules.specs.Kinds.{byForm}
-use Rattle.rules.specs.Sizes.{Touch, Across, touches, pairs, rawAt, positionsOk}
+use Rattle.rules.specs.Sizes.{touches, pairs, rawAt, positionsOk}
 use Rattle.rules.specs.Tool.{toolKindOf, toolRules}
 use Rattle.rules.specs.Zero.{zeroKindOf, zeroRules}
 use Rattle.rules.specs.Passed.{LimitsPassed, calibration-passed, tool-passed, zero-passed}

@@ -1,7 +1,6 @@
 -- Document 01, 'Units and stores', in plain numbers: how many records there are, and the range of each. What the rules test by name is held to these numbers
 -- here. `records-stated` of the crate `reckoning` says it of what every list of calls leaves.
 use mathlib.Core.Path.{_≡_}
-use mathlib.Core.Bool.{true}
 use mathlib.Core.List.{List}
 use Prim.Native.Nat.{ℕ, _<_}
 use native.Mathlib.Omega.{arith}
@@ -13,7 +12,7 @@ use Rattle.signed.specs.RangeLaws.{within-is}
 use Rattle.lists.specs.Each.{each-at}
 use Rattle.rules.specs.Stores.{Package, StoreName, probes, empiricals, means, tools, offsets, Holds, nothing, entries}
 use Rattle.rules.specs.StoreLaws.{Store}
-use Rattle.rules.specs.InRange.{ranged, EntryKnown, InRange}
+use Rattle.rules.specs.InRange.{InRange}
 
 -- the record with an index, counted from 0
 abbrev pub nth : Package → (s : StoreName) → ℕ → Holds s

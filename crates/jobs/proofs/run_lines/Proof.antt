@@ -14,7 +14,6 @@ use Rattle.text.specs.Pieces.{line, HasLine, lines}
 use Rattle.text.specs.PieceLaws.{lines-first, lines-end, has-line}
 use Rattle.area.specs.Table.{areaLength}
 use Rattle.job_limits.specs.JobRuleLaws.{Runs, runs-when}
-use Rattle.job_text.specs.Letters.{mostFields}
 use Rattle.job_text.specs.Lines.{Said, saidBy}
 use Rattle.job_answers.specs.Answers.{rowText}
 use Rattle.job_answers.specs.AnswerLaws.{Small, at-most-40}

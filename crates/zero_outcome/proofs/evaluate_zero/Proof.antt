@@ -1,6 +1,6 @@
 -- The arguments' rules come first; where they pass, the records' rules decide, and where these pass the change is that of the call.
 use mathlib.Core.Path.{_≡_, sym, ap, _∙_}
-use mathlib.Core.List.{[], _∷_}
+use mathlib.Core.List.{[]}
 use Prim.Native.Nat.{ℕ}
 use borrow.Author.Needs.{needs}
 use Rattle.package.specs.declared.records.Offset.{Offset}

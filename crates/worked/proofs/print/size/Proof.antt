@@ -1,12 +1,10 @@
-use mathlib.Core.Path.{_≡_, _∙_}
+use mathlib.Core.Path.{_∙_}
 use native.Mathlib.Omega.{arith}
-use lib.IntN.{pos, natAbs}
+use lib.IntN.{pos}
 use lib.Signed.{_≤ℤ_, _<ℤ_, yes-nonNeg}
 use mir.Syntax.{w32, w64}
-use mir.Val.{toZ}
-use mir.Facts.{toZ-ofZ}
 use borrow.Author.Needs.{needs}
-use Rattle.signed.specs.Expressions.{Ex, any, lit, sub, cast, bits, Runs, run}
+use Rattle.signed.specs.Expressions.{Ex, any, lit, sub, cast, Runs, run}
 use Rattle.signed.specs.RangeLaws.{lt-taken, lt-left}
 use Rattle.signed.specs.Sizes.{below-zero, abs-of}
 use Rattle.worked.proofs.print.size.Statement.{statement}
