@@ -12,7 +12,8 @@ use Rattle.measuring.specs.Reply.{Reply, reply, undecided, toolReplied, zeroRep
 
 -- a measurement of so many arguments, by what it replies where they are as many
 abbrev pub exported : (area numbers results : List ℤ) (count : ℕ) → Reply → Reply
-exported area numbers results count r = cond (wholeArea area) (cond (eqb (length numbers) count) r (reply (undecided 101) area results)) (reply (undecided 100) area results)
+exported area numbers results count r =
+    cond (wholeArea area) (cond (eqb (length numbers) count) r (reply (undecided 101) area results)) (reply (undecided 100) area results)
 
 abbrev pub toolExported : (area numbers results : List ℤ) → ℕ → Reply
 toolExported area numbers results place = exported area numbers results 21 (toolReplied area (toolOf numbers) results place)

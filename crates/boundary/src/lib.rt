@@ -155,7 +155,8 @@ pub extern "C" fn mezhtolik_save(area: &[i32], buffer: &mut [u8]) -> u32
 // Runs a job and writes the answers of its lines to the front of the output.
 #[no_mangle]
 pub extern "C" fn mezhtolik_run_job(area: &mut [i32], job: &[u8], output: &mut [u8]) -> Ran
-    ensures { λ r. ⌜ jobLeft (r .refusal) (r .length) (now (area .exit)) (now (output .exit)) ≡ jobCalled (now (area .entry)) (now (job .entry)) (now (output .entry)) ⌝ }
+    ensures { λ r. ⌜ jobLeft (r .refusal) (r .length) (now (area .exit)) (now (output .exit))
+        ≡ jobCalled (now (area .entry)) (now (job .entry)) (now (output .entry)) ⌝ }
 {
     run_job(area, job, output)
 }

@@ -91,7 +91,8 @@ module _ (area : List ℤ) (whole : length area ≡ areaLength) (a : Calibration
         ∙ ap (λ (ts : List ℤ). set ts j (found .trigger) ++ (pos (found .status) ∷ [])) (sym triggers-is)
         ∙ rw (new, place-is)))
 
-    pub found-done : {c : Calibrated} → c ≡ found → c .refusal ≡ 0 → {once after : List ℤ} → once ≡ recordPut (sectionOf probes) area (a .probe) (set numbers j (c .trigger))
+    pub found-done : {c : Calibrated} → c ≡ found → c .refusal ≡ 0 → {once after : List ℤ}
+        → once ≡ recordPut (sectionOf probes) area (a .probe) (set numbers j (c .trigger))
         → after ≡ recordPut (sectionOf probes) once (a .probe) (set (recordOf (sectionOf probes) once (a .probe)) 6 (pos (c .status)))
         → unmeasured 0 after ≡ called area (calibrate a)
     found-done q z e f = by-found (rw q at z) (rw q at e) (rw q at f)

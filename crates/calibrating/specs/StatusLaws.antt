@@ -24,6 +24,7 @@ module _ (area : List ℤ) where
     unfolding statusCalled statusRead
     status-refused probe h = rw (eq-eqb (length area) areaLength whole, h)
 
-    pub status-done : (probe : ℤ) → probeNumber probe ≡ true → statusAnswer (statusFrom (getD (recordOf (sectionOf probes) area probe) 6 (pos 0))) ≡ statusCalled area probe
+    pub status-done : (probe : ℤ) → probeNumber probe ≡ true
+        → statusAnswer (statusFrom (getD (recordOf (sectionOf probes) area probe) 6 (pos 0))) ≡ statusCalled area probe
     unfolding statusCalled statusRead
     status-done probe h = rw (eq-eqb (length area) areaLength whole, h, at-held area (omega arith) probes probe (or-zero 3 probe h))

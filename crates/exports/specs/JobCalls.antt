@@ -35,7 +35,8 @@ abbrev pub jobCalls : List ℕ → ℕ → List Call
 jobCalls job room = cond (eqb (jobRefusal job room) 0) (callsOf (lines job)) []
 
 -- ---- no line is given bytes
-by-letter : (P : Said → Type 0) (ls : List Letter) (byte : ℕ) (take : Letter → Said) → P malformed → Each (λ l. P (take l)) ls → P (byLetter ls byte take malformed)
+by-letter : (P : Said → Type 0) (ls : List Letter) (byte : ℕ) (take : Letter → Said) → P malformed → Each (λ l. P (take l)) ls
+    → P (byLetter ls byte take malformed)
 by-letter P [] byte take m h = m
 by-letter P (l ∷ ls) byte take m h = go (eqb byte (l .byte)) (by-letter P ls byte take m (h .1))
   where
@@ -54,7 +55,8 @@ behind-given : (byte : ℕ) (r : Numbers) → Given (saidBehind byte r)
 behind-given byte none = by-letter Given letters byte (counted none) tt (tt, (tt, (tt, (tt, (tt, (tt, tt))))))
 behind-given byte (all zs) =
     by-letter Given letters byte (counted (all zs)) tt
-    (each-so {P = λ l. Given (says (l .call zs))} {Q = λ l. Given (counted (all zs) l)} (λ l h. unless (eqb (length zs) (l .fields)) (says (l .call zs)) h) letters
+    (each-so {P = λ l. Given (says (l .call zs))} {Q = λ l. Given (counted (all zs) l)}
+    (λ l h. unless (eqb (length zs) (l .fields)) (says (l .call zs)) h) letters
     ((tt, tt), ((tt, tt), ((tt, tt), ((tt, tt), ((tt, tt), ((tt, tt), tt)))))))
 
 line-given : (s : List ℕ) → Given (saidBy s)
@@ -94,11 +96,13 @@ lines-area area (l ∷ ls) =
     ∙ ap (λ (a : List ℤ). folded callArea a (callsOf ls)) (line-area area (saidBy l))
     ∙ sym (folded-append callArea area (callOf (saidBy l)) (callsOf ls))
 
-pub job-area : (area : List ℤ) (job output : List ℕ) → length area ≡ areaLength → jobCalled area job output .area ≡ folded callArea area (jobCalls job (length output))
+pub job-area : (area : List ℤ) (job output : List ℕ) → length area ≡ areaLength
+    → jobCalled area job output .area ≡ folded callArea area (jobCalls job (length output))
 unfolding jobCalled
 job-area area job output whole = rw (eq-eqb (length area) areaLength whole) (go (eqb (jobRefusal job (length output)) 0))
   where
-    go : (b : Bool) → cond b (jobLeft 0 (length (linesText area 0 (lines job))) (linesArea area (lines job)) (written output 0 (linesText area 0 (lines job)))) (jobLeft (jobRefusal job (length output)) 0 area output) .area
+    go : (b : Bool) → cond b (jobLeft 0 (length (linesText area 0 (lines job))) (linesArea area (lines job))
+        (written output 0 (linesText area 0 (lines job)))) (jobLeft (jobRefusal job (length output)) 0 area output) .area
         ≡ folded callArea area (cond b (callsOf (lines job)) [])
     go true = lines-area area (lines job)
     go false = refl

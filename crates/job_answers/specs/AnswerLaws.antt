@@ -13,7 +13,8 @@ pub record Small (r : Row) : Type 0 where
   pub refusal : r .refusal ≤ 10
   pub evaluation : EvaluationSmall (r .evaluation)
 
-pub at-most-40 : (r : Row) → Small r → natAbs (r .evaluation .deviation) ≤ 9999999999 → natAbs (r .evaluation .correction) ≤ 9999999999 → length (rowText r) ≤ 40
+pub at-most-40 : (r : Row) → Small r → natAbs (r .evaluation .deviation) ≤ 9999999999 → natAbs (r .evaluation .correction) ≤ 9999999999
+    → length (rowText r) ≤ 40
 at-most-40 r s d c =
     simp length-append (omega (
       arith,

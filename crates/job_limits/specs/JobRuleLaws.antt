@@ -44,9 +44,11 @@ pub record Runs (s : List ℕ) (n : ℕ) : Type 0 where
 pub runs-when : (s : List ℕ) (room : ℕ) → jobRefusal s room ≡ 0 → Runs s room
 unfolding jobRefusal
 runs-when s room e =
-    go (eqb (length s) 0) (leb (length s) 65536) (eqb (getD s (length s - 1) 0) lineFeed) (leb (length (lines s)) 1000) (leb (40 * length (lines s)) room) refl refl refl refl e
+    go (eqb (length s) 0) (leb (length s) 65536) (eqb (getD s (length s - 1) 0) lineFeed) (leb (length (lines s)) 1000)
+    (leb (40 * length (lines s)) room) refl refl refl refl e
   where
-    go : (a b c d f : Bool) → leb (length s) 65536 ≡ b → eqb (getD s (length s - 1) 0) lineFeed ≡ c → leb (length (lines s)) 1000 ≡ d → leb (40 * length (lines s)) room ≡ f
+    go : (a b c d f : Bool) → leb (length s) 65536 ≡ b → eqb (getD s (length s - 1) 0) lineFeed ≡ c → leb (length (lines s)) 1000 ≡ d
+        → leb (40 * length (lines s)) room ≡ f
         → _≡_ {A = ℕ} (cond (not a) (cond (b && c && d) (cond f 0 1) 12) 11) 0 → Runs s room
     go true b c d f w x y z e = absurd (omega arith)
     go false false c d f w x y z e = absurd (omega arith)
@@ -54,4 +56,9 @@ runs-when s room e =
     go false true true false f w x y z e = absurd (omega arith)
     go false true true true false w x y z e = absurd (omega arith)
     go false true true true true w x y z e =
-        record { size = leb-true (length s) 65536 w; ended = eqb-true (getD s (length s - 1) 0) lineFeed x; count = leb-true (length (lines s)) 1000 y; room = leb-true (40 * length (lines s)) room z }
+        record {
+          size = leb-true (length s) 65536 w;
+          ended = eqb-true (getD s (length s - 1) 0) lineFeed x;
+          count = leb-true (length (lines s)) 1000 y;
+          room = leb-true (40 * length (lines s)) room z;
+        }

@@ -19,6 +19,7 @@ module _ {A B : Type 0} where
   folded-append f a (b ∷ bs) cs = folded-append f (f a b) bs cs
 
 -- a part of the state that goes its own way
-pub folded-part : {A B C : Type 0} (g : A → C) (f : A → B → A) (e : C → B → C) → ((a : A) (b : B) → g (f a b) ≡ e (g a) b) → (a : A) (bs : List B) → g (folded f a bs) ≡ folded e (g a) bs
+pub folded-part : {A B C : Type 0} (g : A → C) (f : A → B → A) (e : C → B → C) → ((a : A) (b : B) → g (f a b) ≡ e (g a) b) → (a : A) (bs : List B)
+    → g (folded f a bs) ≡ folded e (g a) bs
 folded-part g f e h a [] = refl
 folded-part g f e h a (b ∷ bs) = folded-part g f e h (f a b) bs ∙ ap (λ c. folded e c bs) (h a b)

@@ -30,7 +30,8 @@ module _ (area : List ℤ) where
     pub load-done : (bytes : List ℕ) → length bytes ≡ 80 → {once after : List ℤ} → once ≡ written area (sectionOf empiricals .at) (words (take 40 bytes))
         → after ≡ written once (sectionOf means .at) (words (drop 40 bytes)) → unmeasured 0 after ≡ called area (load bytes)
     load-done bytes n e f =
-        call-done area (load bytes) whole (rw (eq-eqb (length bytes) 80 n)) refl (rw (in-a-row (words (take 40 bytes)), in-a-row (words (drop 40 bytes))) (f ∙ rw e))
+        call-done area (load bytes) whole (rw (eq-eqb (length bytes) 80 n)) refl
+        (rw (in-a-row (words (take 40 bytes)), in-a-row (words (drop 40 bytes))) (f ∙ rw e))
 
     pub save-done : (buffer : List ℕ) {es ms : List ℤ} {r : ℕ} {after : List ℕ} → es ≡ map (recordFrom means) (records (sectionOf empiricals) area)
         → ms ≡ map (recordFrom means) (records (sectionOf means) area) → r ≡ first (saveRules buffer)

@@ -9,5 +9,7 @@ use Rattle.rules.specs.Tool.{limitsOk, deviation, branchOf, decided, dec
 use Rattle.rules.specs.Calls.{refusal, step}
 
 unfoldable pub computed : Unit {0}
-unfolding step refusal nearestIn placeOf triggerOf calibratedIn newTrigger change calibrationArguments calibrationRecords triggerLeft statusLeft calibratedProbe surface pairOf measured sizesOf numbersOk positionsOk calibratedOk pairsOk limitsOk toolArguments toolTests deviation decided decision branchOf wearLeft wearsLeft meanStep meanChange meanRounding roundedQuotient symmetric halvesUp
+unfolding step refusal nearestIn placeOf triggerOf calibratedIn newTrigger change calibrationArguments calibrationRecords triggerLeft statusLeft
+    calibratedProbe surface pairOf measured sizesOf numbersOk positionsOk calibratedOk pairsOk limitsOk toolArguments toolTests deviation decided decision
+    branchOf wearLeft wearsLeft meanStep meanChange meanRounding roundedQuotient symmetric halvesUp
 computed = tt

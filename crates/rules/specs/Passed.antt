@@ -106,8 +106,16 @@ tests-passed t e =
     let by : (n : ℕ) → test n (recordRules t) ≡ true = λ n. test-passed n (recordRules t) tt e in
     record { calibrated = by 5; pairs = by 6; tsa = by 7; tdif = by 8; range = by 9 }
 
-rules-passed : (rs : List Rule) (t : Tests) → Numbered rs → first (rs ++ recordRules t) ≡ 0 → (first rs ≡ 0) × TestsPassed t
-rules-passed rs t n e = let b = both-zero rs (recordRules t) n e in (b .0, tests-passed t (b .1))
+-- a measurement that is done: what its arguments passed, and the tests of its records
+pub record MeasurementPassed (Arguments : Type 0) (t : Tests) : Type 0 where
+  pub arguments : Arguments
+  pub tests : TestsPassed t
+
+measurement-passed : {A : Type 0} (rs : List Rule) (t : Tests) → Numbered rs → (first rs ≡ 0 → A) → first (rs ++ recordRules t) ≡ 0
+    → MeasurementPassed A t
+measurement-passed rs t n h e =
+    let b = both-zero rs (recordRules t) n e in
+    record { arguments = h (b .0); tests = tests-passed t (b .1) }
 
 -- where the rule of the room stands before them
 pub room-passed : (array : List ℤ) (place : ℕ) (rs : List Rule) → first (room array place ∷ rs) ≡ 0 → first rs ≡ 0
@@ -127,7 +135,8 @@ pub record ToolNumbers (a : ToolMeasurement) : Type 0 where
 
 pub tool-numbers : (a : ToolMeasurement) → toolNumbers a ≡ true → ToolNumbers a
 tool-numbers a e =
-    let t = all-of (toolKindNumber (a .probing .kind)) (numbersOk (toolKindOf a) (a .probing) ∷ toolNumber (a .tool) ∷ namedOrNone (a .ev) ∷ namedOrNone (a .mv) ∷ []) e in
+    let t = all-of (toolKindNumber (a .probing .kind))
+    (numbersOk (toolKindOf a) (a .probing) ∷ toolNumber (a .tool) ∷ namedOrNone (a .ev) ∷ namedOrNone (a .mv) ∷ []) e in
     record { kind = t .0; numbers = t .1 .0; tool = t .1 .1 .0; ev = t .1 .1 .1 .0; mv = t .1 .1 .1 .1 .0 }
 
 -- "0 ≤ TZL ≤ TMV ≤ TDIF ≤ TSA ≤ 1,000,000; TMV ≤ 32,767; TLL ≤ TUL, both within ±1,000,000"
@@ -173,15 +182,12 @@ tool-arguments-passed a e =
     let w = and-eq-true-iff (positionsOk (toolKindOf a) (a .probing) (a .raws)) (within (pos 1) (pos 1000) (a .k)) .0 (by 3) in
     record { numbers = tool-numbers a (by 2); positions = w .0; weight = w .1; limits = limits-are (a .limits) (by 4) }
 
-pub record ToolPassed (r : ToolRecords) (a : ToolMeasurement) : Type 0 where
-  pub arguments : ToolArgumentsPassed a
-  pub tests : TestsPassed (toolTests r a)
+abbrev pub ToolPassed : ToolRecords → ToolMeasurement → Type 0
+ToolPassed r a = MeasurementPassed (ToolArgumentsPassed a) (toolTests r a)
 
 pub tool-passed : (r : ToolRecords) (a : ToolMeasurement) → first (toolRules r a) ≡ 0 → ToolPassed r a
 unfolding toolArguments
-tool-passed r a e =
-    let t = rules-passed (toolArguments a) (toolTests r a) tt e in
-    record { arguments = tool-arguments-passed a (t .0); tests = t .1 }
+tool-passed r a = measurement-passed (toolArguments a) (toolTests r a) tt (tool-arguments-passed a)
 
 pub tool-call-passed : (r : ToolRecords) (a : ToolMeasurement) (array : List ℤ) (place : ℕ) → first (room array place ∷ toolRules r a) ≡ 0 → ToolPassed r a
 tool-call-passed r a array place e = tool-passed r a (room-passed array place (toolRules r a) e)
@@ -208,15 +214,12 @@ zero-arguments-passed a e =
     let by : (n : ℕ) → test n (zeroArguments a) ≡ true = λ n. test-passed n (zeroArguments a) tt e in
     record { numbers = zero-numbers a (by 2); positions = by 3; tsa = by 4 }
 
-pub record ZeroPassed (r : ZeroRecords) (a : ZeroMeasurement) : Type 0 where
-  pub arguments : ZeroArgumentsPassed a
-  pub tests : TestsPassed (zeroTests r a)
+abbrev pub ZeroPassed : ZeroRecords → ZeroMeasurement → Type 0
+ZeroPassed r a = MeasurementPassed (ZeroArgumentsPassed a) (zeroTests r a)
 
 pub zero-passed : (r : ZeroRecords) (a : ZeroMeasurement) → first (zeroRules r a) ≡ 0 → ZeroPassed r a
 unfolding zeroArguments
-zero-passed r a e =
-    let t = rules-passed (zeroArguments a) (zeroTests r a) tt e in
-    record { arguments = zero-arguments-passed a (t .0); tests = t .1 }
+zero-passed r a = measurement-passed (zeroArguments a) (zeroTests r a) tt (zero-arguments-passed a)
 
 pub zero-call-passed : (r : ZeroRecords) (a : ZeroMeasurement) (array : List ℤ) (place : ℕ) → first (room array place ∷ zeroRules r a) ≡ 0 → ZeroPassed r a
 zero-call-passed r a array place e = zero-passed r a (room-passed array place (zeroRules r a) e)

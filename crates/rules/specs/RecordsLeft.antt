@@ -70,4 +70,5 @@ module _ (p q : Package) (c : Call) (h : PackageKnown typed p) (k : PackageKnown
   same-left s n a =
       let too : refusal q c ≡ 0 = sym (same-refusal p q c same) ∙ done in
       rw (done, too, ← same-changes p q c same)
-      (all-same (changes p c) p q h k (fits typed p c done b h) (subst (λ (cs : List Change). AllFit typed q cs) (sym (same-changes p q c same)) (fits typed q c too b k)) s n a)
+      (all-same (changes p c) p q h k (fits typed p c done b h)
+      (subst (λ (cs : List Change). AllFit typed q cs) (sym (same-changes p q c same)) (fits typed q c too b k)) s n a)

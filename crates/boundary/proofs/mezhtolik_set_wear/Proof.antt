@@ -10,7 +10,8 @@ same-length : tie.Need-same-length
 same-length c = search needs
 
 returns : tie.Need-returns
-returns c = let s = c .before .before .before in rw (toZ-ofZ (s .fits .tool), toZ-ofZ (s .fits .radius), toZ-ofZ (s .fits .length)) at (c .before .set-wear .ensures)
+returns c = let s = c .before .before .before in
+    rw (toZ-ofZ (s .fits .tool), toZ-ofZ (s .fits .radius), toZ-ofZ (s .fits .length)) at (c .before .set-wear .ensures)
 
 pub mezhtolik-set-wear-spec : {M : Type 1} → statement M
 mezhtolik-set-wear-spec = tie.close (tie.spec set-wear-requires same-length returns)

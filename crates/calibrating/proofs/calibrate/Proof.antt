@@ -109,7 +109,8 @@ returns-3 : tie.Need-returns-3
 returns-3 c =
     let d = c .before .before in
     let p = placed d in
-    rw (found-is d) (found-refused (start p .args .area .now) (whole p) (start p .args .a) (passed (checked p)) (at p) (at-is p) (rw (found-is d) at (c .if3 .taken)))
+    rw (found-is d) (found-refused (start p .args .area .now) (whole p) (start p .args .a) (passed (checked p)) (at p) (at-is p)
+    (rw (found-is d) at (c .if3 .taken)))
 
 -- ---- where it is done
 none : (c : tie.Else3) → given (placed (c .before .before)) .refusal ≡ 0

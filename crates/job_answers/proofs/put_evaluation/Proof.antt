@@ -56,21 +56,25 @@ start3 c = start2 (c .before .before .before .before .before)
 abbrev start4 : tie.After-put-signed-field2 → tie.Start
 start4 c = start3 (c .before .before .before .before .before)
 
-put1 : (c : tie.After-put-whole-field) → let s = start1 c in Put (s .args .out .now) (s .args .at) (t1 (s .args .e)) (c .put-whole-field .result) (c .put-whole-field .last .0)
+put1 : (c : tie.After-put-whole-field) → let s = start1 c in
+    Put (s .args .out .now) (s .args .at) (t1 (s .args .e)) (c .put-whole-field .result) (c .put-whole-field .last .0)
 put1 c = c .put-whole-field .ensures
 
-put2 : (c : tie.After-put-whole-field2) → let s = start2 c in Put (s .args .out .now) (s .args .at) (t2 (s .args .e)) (c .put-whole-field2 .result) (c .put-whole-field2 .last .0)
+put2 : (c : tie.After-put-whole-field2) → let s = start2 c in
+    Put (s .args .out .now) (s .args .at) (t2 (s .args .e)) (c .put-whole-field2 .result) (c .put-whole-field2 .last .0)
 put2 c =
     let e = start2 c .args .e in
     chain _ _ _ _ _ _ (t1 e) (wholeField (e .verdict) comma) (fits2 (start2 c)) (put1 (c .before .before .before .before)) (c .put-whole-field2 .ensures)
 
-put3 : (c : tie.After-put-signed-field) → let s = start3 c in Put (s .args .out .now) (s .args .at) (t3 (s .args .e)) (c .put-signed-field .result) (c .put-signed-field .last .0)
+put3 : (c : tie.After-put-signed-field) → let s = start3 c in
+    Put (s .args .out .now) (s .args .at) (t3 (s .args .e)) (c .put-signed-field .result) (c .put-signed-field .last .0)
 put3 c =
     let e = start3 c .args .e in
     chain _ _ _ _ _ _ (t2 e) (signedField (e .deviation) comma) (fits3 (start3 c)) (put2 (c .before .before .before .before .before))
     (rw (read-as w32 (e .deviation) (c .before .struct-told .given .1 .1 .0 .1)) at (c .put-signed-field .ensures))
 
-put4 : (c : tie.After-put-signed-field2) → let s = start4 c in Put (s .args .out .now) (s .args .at) (t4 (s .args .e)) (c .put-signed-field2 .result) (c .put-signed-field2 .last .0)
+put4 : (c : tie.After-put-signed-field2) → let s = start4 c in
+    Put (s .args .out .now) (s .args .at) (t4 (s .args .e)) (c .put-signed-field2 .result) (c .put-signed-field2 .last .0)
 put4 c =
     let e = start4 c .args .e in
     chain _ _ _ _ _ _ (t3 e) (signedField (e .correction) lineFeed) (fits4 (start4 c)) (put3 (c .before .before .before .before .before))
@@ -97,7 +101,8 @@ put-signed-field-requires-2 c κs =
     let p = c .before .before .before .before in
     let s = start3 p in
     let e = s .args .e in
-    rw (read-as w32 (e .correction) (c .struct-told2 .given .1 .1 .1 .0 .1)) (fits-next _ _ _ _ (t3 e) (signedField (e .correction) lineFeed) (fits4 s) (put3 p))
+    rw (read-as w32 (e .correction) (c .struct-told2 .given .1 .1 .1 .0 .1))
+    (fits-next _ _ _ _ (t3 e) (signedField (e .correction) lineFeed) (fits4 s) (put3 p))
 
 same-length : tie.Need-same-length
 same-length c =

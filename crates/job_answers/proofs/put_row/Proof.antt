@@ -45,15 +45,18 @@ start2 c = start1 (c .before .before .before .before)
 abbrev start3 : tie.After-put-evaluation → tie.Start
 start3 c = start2 (c .before .before .before .before)
 
-put1 : (c : tie.After-put-whole-field) → let s = start1 c in Put (s .args .out .now) (s .args .at) (t1 (s .args .r)) (c .put-whole-field .result) (c .put-whole-field .last .0)
+put1 : (c : tie.After-put-whole-field) → let s = start1 c in
+    Put (s .args .out .now) (s .args .at) (t1 (s .args .r)) (c .put-whole-field .result) (c .put-whole-field .last .0)
 put1 c = c .put-whole-field .ensures
 
-put2 : (c : tie.After-put-whole-field2) → let s = start2 c in Put (s .args .out .now) (s .args .at) (t2 (s .args .r)) (c .put-whole-field2 .result) (c .put-whole-field2 .last .0)
+put2 : (c : tie.After-put-whole-field2) → let s = start2 c in
+    Put (s .args .out .now) (s .args .at) (t2 (s .args .r)) (c .put-whole-field2 .result) (c .put-whole-field2 .last .0)
 put2 c =
     let r = start2 c .args .r in
     chain _ _ _ _ _ _ (t1 r) (wholeField (r .refusal) comma) (fits2 (start2 c)) (put1 (c .before .before .before .before)) (c .put-whole-field2 .ensures)
 
-put3 : (c : tie.After-put-evaluation) → let s = start3 c in Put (s .args .out .now) (s .args .at) (t3 (s .args .r)) (c .put-evaluation .result) (c .put-evaluation .last .0)
+put3 : (c : tie.After-put-evaluation) → let s = start3 c in
+    Put (s .args .out .now) (s .args .at) (t3 (s .args .r)) (c .put-evaluation .result) (c .put-evaluation .last .0)
 put3 c =
     let r = start3 c .args .r in
     chain _ _ _ _ _ _ (t2 r) (evaluationText (r .evaluation)) (fits3 (start3 c)) (put2 (c .before .before .before .before)) (c .put-evaluation .ensures)

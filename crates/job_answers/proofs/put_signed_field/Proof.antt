@@ -7,7 +7,8 @@ use Rattle.job_answers.proofs.put_signed_field.Statement.{statement}
 use Rattle.job_answers.proofs.put_signed_field.Tie as tie
 
 -- the number as it was given
-put : (c : tie.After-put-number) → let s = c .before .before .before in Put (s .args .out .now) (s .args .at) (signedDecimal (s .args .z)) (c .put-number .result) (c .put-number .last .0)
+put : (c : tie.After-put-number) → let s = c .before .before .before in
+    Put (s .args .out .now) (s .args .at) (signedDecimal (s .args .z)) (c .put-number .result) (c .put-number .last .0)
 put c = rw (toZ-ofZ (c .before .before .before .fits .z)) at (c .put-number .ensures)
 
 put-number-requires : tie.Need-put-number-requires

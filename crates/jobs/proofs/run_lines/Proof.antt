@@ -110,7 +110,8 @@ short c =
     let l = line-at c in
     let e = c .run-line .ok .1 .1 .1 .1 .0 .1 .1 .1 .1 in
     at-most-40 (c .run-line .result)
-    (subst (λ (o : Ran). Small (o .row)) (sym (stepped c)) (row-small (l .loop .area) (l .loop .number + 1) (saidBy (line (rest l))) (l .loop .inv .3) (counted (reading c) .1)))
+    (subst (λ (o : Ran). Small (o .row)) (sym (stepped c))
+    (row-small (l .loop .area) (l .loop .number + 1) (saidBy (line (rest l))) (l .loop .inv .3) (counted (reading c) .1)))
     (omega (arith, natAbs-le (c .run-line .result .evaluation .deviation) (e .0 .1)))
     (omega (arith, natAbs-le (c .run-line .result .evaluation .correction) (e .1 .0 .1)))
 

@@ -16,7 +16,8 @@ returns-2 : tie.Need-returns-2
 returns-2 c =
     let e = c .before in
     let s = e .before .before in
-    call-refused (s .args .area .now) (load (s .args .bytes .now)) (e .if1 .left) (rw (ne-eqb (length (s .args .bytes .now)) 80 (c .if2 .taken))) (λ q. omega (arith, q))
+    call-refused (s .args .area .now) (load (s .args .bytes .now)) (e .if1 .left) (rw (ne-eqb (length (s .args .bytes .now)) 80 (c .if2 .taken)))
+    (λ q. omega (arith, q))
 
 slice-aggregate-write-values : tie.Need-slice-aggregate-write-values
 slice-aggregate-write-values c = simp length-take (omega arith)

@@ -76,9 +76,13 @@ loop-again : tie.Need-loop-again Inv-loop μ-loop
 loop-again c =
     let l = c .before .before .before .before in
     let back : toZ w16 (ofZ w16 (c .value-from .result)) ≡ c .value-from .result = search needs in
-    let r = c .value-from .ensures ∙ ap valueFrom (read-as w32 _ (c .before .value-from-arg .given)) ∙ read-at (section l) (area l) (l .loop .i) (l .before .pre .0) (omega (arith, l .before .pre .1)) in
-    let n = twenty l in
-    (omega arith, rw (l .loop .inv .1, back, r) (copied-suc _ (map (recordFrom means) (records (section l) (area l))) (l .loop .i) _ (omega arith) (omega arith)))
+    let r = c .value-from .ensures ∙ ap valueFrom (read-as w32 _ (c .before .value-from-arg .given))
+    ∙ read-at (section l) (area l) (l .loop .i) (l .before .pre .0) (omega (arith, l .before .pre .1)) in
+    let n = twenty l in (
+      omega arith,
+      rw (l .loop .inv .1, back, r)
+          (copied-suc _ (map (recordFrom means) (records (section l) (area l))) (l .loop .i) _ (omega arith) (omega arith)),
+    )
 
 returns : tie.Need-returns Inv-loop μ-loop
 returns c =

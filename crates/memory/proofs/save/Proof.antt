@@ -25,7 +25,8 @@ returns-2 c =
     let u = v .before in
     let e = u .before in
     let s = e .before .before in
-    save-done (s .args .area .now) (e .if1 .left) (s .args .buffer .now) (u .read-values .ensures) (v .read-values2 .ensures) (w .save-memory .ensures .0) (w .save-memory .ensures .1)
+    save-done (s .args .area .now) (e .if1 .left) (s .args .buffer .now) (u .read-values .ensures) (v .read-values2 .ensures) (w .save-memory .ensures .0)
+    (w .save-memory .ensures .1)
 
 pub save-spec : {M : Type 1} → statement M
 save-spec = tie.close (tie.spec returns read-values-requires read-values-requires-2 save-memory-requires same-length returns-2)

@@ -30,7 +30,8 @@ module _ (c : tie.At-loop Inv-loop μ-loop) where
   same : length (c .loop .area) ≡ length (c .before .before .args .area .now)
   same =
       let n = twenty in
-      ap length (c .loop .inv .1) ∙ length-paste (c .before .before .args .area .now) (c .before .before .args .at) values (c .loop .i) (omega (arith, c .before .before .pre .0)) (omega arith)
+      ap length (c .loop .inv .1) ∙ length-paste (c .before .before .args .area .now) (c .before .before .args .at) values (c .loop .i)
+      (omega (arith, c .before .before .pre .0)) (omega arith)
 
 loop-holds : tie.Need-loop-holds Inv-loop μ-loop
 loop-holds c = (omega arith, paste-zero (c .before .args .area .now) (c .before .args .at) (words (c .before .args .bytes .now)))

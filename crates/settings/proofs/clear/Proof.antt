@@ -58,7 +58,11 @@ returns c =
     let n = same l in
     let e : l .loop .i ≡ length zs = omega arith in
     l .loop .inv .1
-    ∙ rw (e, copied-all zs (replicate (length zs) (pos 0)) (length zs) (length-replicate (length zs) (pos 0)), drop-of-length-le zs {i = length zs} (omega arith))
+    ∙ rw (
+      e,
+      copied-all zs (replicate (length zs) (pos 0)) (length zs) (length-replicate (length zs) (pos 0)),
+      drop-of-length-le zs {i = length zs} (omega arith),
+    )
     (append-nil (replicate (length zs) (pos 0)))
 
 pub clear-spec : {M : Type 1} → statement M

@@ -47,8 +47,10 @@ put-record-requires : tie.Need-put-record-requires
 put-record-requires c κs =
     let e = c .before .before in
     let w = e .before .before in
-    let s = w .before in
-    (omega (arith, w .if1 .left), (rw (toZ-ofZ (s .fits .ev)) (or-zero 20 (s .args .ev) (empirical-passed (s .args .ev) (s .args .value) (none e) .number)), refl))
+    let s = w .before in (
+      omega (arith, w .if1 .left),
+      (rw (toZ-ofZ (s .fits .ev)) (or-zero 20 (s .args .ev) (empirical-passed (s .args .ev) (s .args .value) (none e) .number)), refl),
+    )
 
 same-length : tie.Need-same-length
 same-length c = search needs

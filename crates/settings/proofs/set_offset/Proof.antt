@@ -23,8 +23,10 @@ returns c = let s = c .before in call-wrong (s .args .area .now) (call s) (c .if
 offset-refusal-requires : tie.Need-offset-refusal-requires
 offset-refusal-requires c κs = search needs
 
-given : (c : tie.After-offset-refusal) → let s = c .before .before in c .offset-refusal .result ≡ first (offsetRules (s .args .offset) (s .args .v1) (s .args .v2) (s .args .v3))
-given c = let s = c .before .before in rw (toZ-ofZ (s .fits .offset), toZ-ofZ (s .fits .v1), toZ-ofZ (s .fits .v2), toZ-ofZ (s .fits .v3)) at (c .offset-refusal .ensures)
+given : (c : tie.After-offset-refusal) → let s = c .before .before in
+    c .offset-refusal .result ≡ first (offsetRules (s .args .offset) (s .args .v1) (s .args .v2) (s .args .v3))
+given c = let s = c .before .before in
+    rw (toZ-ofZ (s .fits .offset), toZ-ofZ (s .fits .v1), toZ-ofZ (s .fits .v2), toZ-ofZ (s .fits .v3)) at (c .offset-refusal .ensures)
 
 returns-2 : tie.Need-returns-2
 returns-2 c = let w = c .before .before in let s = w .before in call-refused (s .args .area .now) (call s) (w .if1 .left) (given (c .before)) (c .if2 .taken)
@@ -33,7 +35,8 @@ none : (c : tie.Else2) → let s = c .before .before .before in first (offsetRul
 none c = sym (given (c .before)) ∙ c .if2 .left
 
 kept : (c : tie.Else2) → let s = c .before .before .before in Cast w32 (s .args .v1) × Cast w32 (s .args .v2) × Cast w32 (s .args .v3)
-kept c = let s = c .before .before .before in offset-casts (s .args .offset) (s .args .v1) (s .args .v2) (s .args .v3) (none c) (s .fits .v1) (s .fits .v2) (s .fits .v3)
+kept c = let s = c .before .before .before in
+    offset-casts (s .args .offset) (s .args .v1) (s .args .v2) (s .args .v3) (none c) (s .fits .v1) (s .fits .v2) (s .fits .v3)
 
 cast-t10 : tie.Need-cast-t10
 cast-t10 c = search (kept c)
@@ -51,8 +54,14 @@ put-record-requires : tie.Need-put-record-requires
 put-record-requires c κs =
     let e = c .before .before in
     let w = e .before .before in
-    let s = w .before in
-    (omega (arith, w .if1 .left), (rw (toZ-ofZ (s .fits .offset)) (or-zero 4 (s .args .offset) (offset-passed (s .args .offset) (s .args .v1) (s .args .v2) (s .args .v3) (none e) .number)), refl))
+    let s = w .before in (
+      omega (arith, w .if1 .left),
+      (
+        rw (toZ-ofZ (s .fits .offset))
+            (or-zero 4 (s .args .offset) (offset-passed (s .args .offset) (s .args .v1) (s .args .v2) (s .args .v3) (none e) .number)),
+        refl,
+      ),
+    )
 
 same-length : tie.Need-same-length
 same-length c = search needs
@@ -62,7 +71,8 @@ returns-3 c =
     let e = c .before .before .before .before in
     let w = e .before .before in
     let s = w .before in
-    call-done (s .args .area .now) (call s) (w .if1 .left) (none e) refl (rw (toZ-ofZ (s .fits .offset), kept e .0 .value, kept e .1 .value, kept e .2 .value) at (c .before .put-record .ensures))
+    call-done (s .args .area .now) (call s) (w .if1 .left) (none e) refl
+    (rw (toZ-ofZ (s .fits .offset), kept e .0 .value, kept e .1 .value, kept e .2 .value) at (c .before .put-record .ensures))
 
 pub set-offset-spec : {M : Type 1} → statement M
 set-offset-spec =

@@ -23,7 +23,8 @@ returns c = let s = c .before in call-wrong (s .args .area .now) (call s) (c .if
 wear-refusal-requires : tie.Need-wear-refusal-requires
 wear-refusal-requires c κs = search needs
 
-given : (c : tie.After-wear-refusal) → let s = c .before .before in c .wear-refusal .result ≡ first (wearRules (s .args .tool) (s .args .radius) (s .args .length))
+given : (c : tie.After-wear-refusal) → let s = c .before .before in
+    c .wear-refusal .result ≡ first (wearRules (s .args .tool) (s .args .radius) (s .args .length))
 given c = let s = c .before .before in rw (toZ-ofZ (s .fits .tool), toZ-ofZ (s .fits .radius), toZ-ofZ (s .fits .length)) at (c .wear-refusal .ensures)
 
 returns-2 : tie.Need-returns-2
@@ -48,8 +49,10 @@ put-record-requires : tie.Need-put-record-requires
 put-record-requires c κs =
     let e = c .before .before in
     let w = e .before .before in
-    let s = w .before in
-    (omega (arith, w .if1 .left), (rw (toZ-ofZ (s .fits .tool)) (or-zero 32 (s .args .tool) (wears-passed (s .args .tool) (s .args .radius) (s .args .length) (none e) .number)), refl))
+    let s = w .before in (
+      omega (arith, w .if1 .left),
+      (rw (toZ-ofZ (s .fits .tool)) (or-zero 32 (s .args .tool) (wears-passed (s .args .tool) (s .args .radius) (s .args .length) (none e) .number)), refl),
+    )
 
 same-length : tie.Need-same-length
 same-length c = search needs
@@ -59,7 +62,8 @@ returns-3 c =
     let e = c .before .before .before .before in
     let w = e .before .before in
     let s = w .before in
-    call-done (s .args .area .now) (call s) (w .if1 .left) (none e) refl (rw (toZ-ofZ (s .fits .tool), kept e .0 .value, kept e .1 .value) at (c .before .put-record .ensures))
+    call-done (s .args .area .now) (call s) (w .if1 .left) (none e) refl
+    (rw (toZ-ofZ (s .fits .tool), kept e .0 .value, kept e .1 .value) at (c .before .put-record .ensures))
 
 pub set-wear-spec : {M : Type 1} → statement M
 set-wear-spec =

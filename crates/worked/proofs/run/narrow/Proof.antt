@@ -15,7 +15,8 @@ in-range-requires c κs = search needs
 cast-result : tie.Need-cast-result
 cast-result c =
     let s = c .before .before in
-    let inside : within (negsuc 2147483647) (pos 2147483647) (s .args .v) ≡ true = sym (rw (toZ-ofZ (s .fits .v)) at (c .before .in-range .ensures)) ∙ c .if1 .taken in
+    let inside : within (negsuc 2147483647) (pos 2147483647) (s .args .v) ≡ true = sym (rw (toZ-ofZ (s .fits .v)) at (c .before .in-range .ensures))
+    ∙ c .if1 .taken in
     casts w32 (negsuc 2147483647) (pos 2147483647) (s .fits .v) tt tt inside .fits
 
 returns : tie.Need-returns
