@@ -9,7 +9,7 @@ use Rattle.lists.specs.WrittenLaws.{written-length}
 use Rattle.text.specs.Numbers.{nought}
 use Rattle.decimals.specs.Decimals.{decimal}
 use Rattle.decimals.specs.DecimalLaws.{one-digit, digits-step}
-use Rattle.decimals.specs.WrittenLaws.{written-none, written-before}
+use Rattle.decimals.specs.BufferLaws.{written-none, written-before}
 
 -- the digits of n behind those of m stand from k on
 pub record Behind (old : List ℕ) (at n : ℕ) (new : List ℕ) (m k : ℕ) : Type 0 where

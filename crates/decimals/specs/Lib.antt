@@ -1,3 +1,3 @@
 pub mod Decimals
 pub mod DecimalLaws
-pub mod WrittenLaws
+pub mod BufferLaws

@@ -5,7 +5,7 @@ use lib.IntN.{natAbs}
 use lib.ListN.{length, length-append}
 use Rattle.decimals.specs.DecimalLaws.{decimal-length, signed-length}
 use Rattle.rules.specs.EvaluationLaws.{EvaluationSmall}
-use Rattle.job_answers.specs.Answers.{rowText}
+use Rattle.job_answers.specs.LineAnswers.{rowText}
 use Rattle.job_answers.specs.declared.Row.{Row}
 
 pub record Small (r : Row) : Type 0 where

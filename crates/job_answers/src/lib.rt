@@ -9,7 +9,7 @@ ghost use mathlib.Core.Path.{_≡_};
 ghost use Prim.Native.Nat.{_+_, _≤_};
 ghost use lib.ListN.{length};
 ghost use Rattle.lists.specs.Written.{written};
-ghost use Rattle.job_answers.specs.Answers.{wholeField, signedField, evaluationText, rowText};
+ghost use Rattle.job_answers.specs.LineAnswers.{wholeField, signedField, evaluationText, rowText};
 
 // What a line answers.
 pub struct Row {

@@ -4,7 +4,7 @@ use Prim.Native.Nat.{ℕ}
 use lib.IntN.{ℤ}
 use Rattle.job_text.specs.Lines.{Said, malformed, says}
 use Rattle.area.specs.Called.{Called, unmeasured, called}
-use Rattle.job_answers.specs.Answers.{row}
+use Rattle.job_answers.specs.LineAnswers.{row}
 use Rattle.job_answers.specs.declared.Row.{Row}
 
 -- "A line: 10 malformed or too long, else its operation's."

@@ -8,7 +8,7 @@ use Rattle.area.specs.Called.{Called, called}
 use borrow.Author.Tests.{ne-eqb}
 use Rattle.job_text.specs.Lines.{Said, malformed, says}
 use Rattle.job_text.specs.Fields.{saidIn}
-use Rattle.job_answers.specs.Answers.{row}
+use Rattle.job_answers.specs.LineAnswers.{row}
 use Rattle.job_answers.specs.declared.Row.{Row}
 use Rattle.job_lines.specs.LineCalled.{ranAs, lineRan}
 

@@ -6,7 +6,7 @@ use native.Mathlib.Omega.{arith}
 use lib.IntN.{ℤ, pos, natAbs}
 use lib.Signed.{_≤ℤ_}
 use Rattle.signed.specs.Differences.{ints, parts}
-use Rattle.signed.specs.Sizes.{abs-add}
+use Rattle.signed.specs.Magnitudes.{abs-add}
 use Rattle.signed.specs.Ranges.{minus}
 use Rattle.signed.specs.RangeLaws.{≤ℤ-trans}
 use Rattle.package.specs.declared.arguments.Limits.{Limits}
@@ -21,7 +21,7 @@ use Rattle.rules.specs.Results.{sizeEntries, toolEntries, zeroEntries}
 use Rattle.rules.specs.Passed.{LimitsPassed, ToolArgumentsPassed, ZeroArgumentsPassed}
 use Rattle.kinds.specs.KindLaws.{probe-number}
 use Rattle.sizes.specs.SizeLaws.{SizesSmall}
-use Rattle.results.specs.Results.{Small}
+use Rattle.results.specs.ResultSizes.{Small}
 use Rattle.results.specs.OutcomeLaws.{between-size, number-size, entries-small}
 use Rattle.evaluation.specs.FoundSmall.{FoundSmall, value-size}
 

@@ -23,7 +23,7 @@ ghost use Rattle.rules.specs.Tool.{toolKindOf};
 ghost use Rattle.rules.specs.Passed.{ToolNumbers};
 ghost use Rattle.area.specs.Table.{areaLength};
 ghost use Rattle.area.specs.Renewed.{renewedAll};
-ghost use Rattle.tool_outcome.specs.Outcome.{ToolEvaluated};
+ghost use Rattle.tool_outcome.specs.ToolOutcome.{ToolEvaluated};
 
 // A measurement that is refused, by its number, or done, by what it found.
 pub enum ToolOutcome {

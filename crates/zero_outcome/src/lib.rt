@@ -21,7 +21,7 @@ ghost use Rattle.rules.specs.Zero.{zeroKindOf};
 ghost use Rattle.rules.specs.Passed.{ZeroNumbers};
 ghost use Rattle.area.specs.Table.{areaLength};
 ghost use Rattle.area.specs.Renewed.{renewedAll};
-ghost use Rattle.zero_outcome.specs.Outcome.{ZeroEvaluated};
+ghost use Rattle.zero_outcome.specs.ZeroOutcome.{ZeroEvaluated};
 
 // A measurement that is refused, by its number, or done, by its sizes.
 pub enum ZeroOutcome {

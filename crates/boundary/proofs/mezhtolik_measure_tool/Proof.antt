@@ -1,3 +1,4 @@
+-- Three cases, a law each: an area of the wrong length, numbers that are not 21, or the reply of the measurement by these numbers.
 use mathlib.Core.Path.{ap, _∙_}
 use borrow.Author.Needs.{needs}
 use Rattle.package.specs.declared.arguments.ToolMeasurement.{ToolMeasurement}

@@ -1,3 +1,4 @@
+-- By cases: an area of another length, another count of numbers, or the reply of the measurement of the arguments that the numbers give.
 use mathlib.Core.Path.{ap, _∙_}
 use borrow.Author.Needs.{needs}
 use Rattle.package.specs.declared.arguments.ZeroMeasurement.{ZeroMeasurement}

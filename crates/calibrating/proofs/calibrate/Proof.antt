@@ -1,3 +1,4 @@
+-- By cases: a wrong area, arguments refused, a calibration refused, or one done; then the new trigger and status are put in the probe's record.
 use mathlib.Core.Path.{_≡_, sym, ap, ap₂, _∙_}
 use mathlib.Core.Bool.{true}
 use Prim.Native.Nat.{ℕ, suc, _-_, _≤_, _<_}

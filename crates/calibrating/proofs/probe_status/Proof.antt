@@ -1,3 +1,4 @@
+-- By cases: a wrong area, a probe number out of range, or the status that the probe's record holds.
 use mathlib.Core.Path.{_≡_, ap, _∙_}
 use mathlib.Core.Bool.{true}
 use native.Mathlib.Omega.{arith}

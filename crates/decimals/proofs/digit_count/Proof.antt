@@ -1,3 +1,4 @@
+-- After each turn the count and the digits of m are together one more than the digits of n; at the end m is one digit.
 use mathlib.Core.Path.{_≡_, ap}
 use Prim.Native.Nat.{_+_, _≤_}
 use native.Mathlib.Omega.{arith}

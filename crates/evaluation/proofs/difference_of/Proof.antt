@@ -1,3 +1,4 @@
+-- By the bounds of its three terms both subtractions stay within i64, so the result is exact, and its magnitude at most their sum.
 use mathlib.Core.Path.{refl}
 use native.Mathlib.Omega.{arith}
 use mir.Syntax.{w64}

@@ -1,3 +1,4 @@
+-- Field by field: branch and verdict by their functions, and the deviation and correction are small, so that i32 holds them as they are.
 use borrow.Author.Needs.{needs}
 use Rattle.signed.specs.CodeLaws.{read}
 use Rattle.evaluation.proofs.Laws.{narrowed}

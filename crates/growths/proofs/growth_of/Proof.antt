@@ -1,3 +1,4 @@
+-- By cases: an axis not corrected grows by 0, a plane's by twice its deviation, a pair's by its shift; each size is within the bound.
 use mathlib.Core.Path.{_≡_, refl, sym, ap, _∙_}
 use Prim.Native.Nat.{zero, suc, _≤_}
 use native.Mathlib.Omega.{arith}

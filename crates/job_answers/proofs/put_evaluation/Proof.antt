@@ -7,9 +7,9 @@ use mir.Syntax.{w32}
 use Rattle.signed.specs.CodeLaws.{read-as}
 use Rattle.text.specs.Pieces.{comma, lineFeed}
 use Rattle.lists.specs.WrittenLaws.{written-length}
-use Rattle.decimals.specs.WrittenLaws.{Put, chain, fits-front, fits-next}
+use Rattle.decimals.specs.BufferLaws.{Put, chain, fits-front, fits-next}
 use Rattle.package.specs.declared.found.Evaluation.{Evaluation}
-use Rattle.job_answers.specs.Answers.{wholeField, signedField}
+use Rattle.job_answers.specs.LineAnswers.{wholeField, signedField}
 use Rattle.job_answers.proofs.put_evaluation.Statement.{statement}
 use Rattle.job_answers.proofs.put_evaluation.Tie as tie
 

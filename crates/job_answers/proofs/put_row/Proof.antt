@@ -5,8 +5,8 @@ use Prim.Native.Nat.{ℕ, _+_, _≤_}
 use lib.ListN.{length}
 use Rattle.text.specs.Pieces.{comma}
 use Rattle.lists.specs.WrittenLaws.{written-length}
-use Rattle.decimals.specs.WrittenLaws.{Put, chain, fits-front, fits-next}
-use Rattle.job_answers.specs.Answers.{wholeField, evaluationText}
+use Rattle.decimals.specs.BufferLaws.{Put, chain, fits-front, fits-next}
+use Rattle.job_answers.specs.LineAnswers.{wholeField, evaluationText}
 use Rattle.job_answers.specs.declared.Row.{Row}
 use Rattle.job_answers.proofs.put_row.Statement.{statement}
 use Rattle.job_answers.proofs.put_row.Tie as tie

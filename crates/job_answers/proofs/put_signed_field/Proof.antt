@@ -1,8 +1,9 @@
+-- The number has room in front of the byte and the byte behind it, and two texts written in a row are their text in one.
 use mathlib.Core.List.{[], _∷_}
 use mir.Facts.{toZ-ofZ}
 use borrow.Author.Needs.{needs}
 use Rattle.decimals.specs.Decimals.{signedDecimal}
-use Rattle.decimals.specs.WrittenLaws.{Put, chain, fits-front, fits-next}
+use Rattle.decimals.specs.BufferLaws.{Put, chain, fits-front, fits-next}
 use Rattle.job_answers.proofs.put_signed_field.Statement.{statement}
 use Rattle.job_answers.proofs.put_signed_field.Tie as tie
 

@@ -1,7 +1,8 @@
+-- The field fits, so that its digits fit and then the byte behind them; the two writings, one after the other, are that of the field.
 use mathlib.Core.List.{[], _∷_}
 use borrow.Author.Needs.{needs}
 use Rattle.decimals.specs.Decimals.{decimal}
-use Rattle.decimals.specs.WrittenLaws.{chain, fits-front, fits-next}
+use Rattle.decimals.specs.BufferLaws.{chain, fits-front, fits-next}
 use Rattle.job_answers.proofs.put_whole_field.Statement.{statement}
 use Rattle.job_answers.proofs.put_whole_field.Tie as tie
 

@@ -15,7 +15,7 @@ use Rattle.text.specs.PieceLaws.{lines-first, lines-end, has-line}
 use Rattle.area.specs.Table.{areaLength}
 use Rattle.job_limits.specs.JobRuleLaws.{Runs, runs-when}
 use Rattle.job_text.specs.Lines.{Said, saidBy}
-use Rattle.job_answers.specs.Answers.{rowText}
+use Rattle.job_answers.specs.LineAnswers.{rowText}
 use Rattle.job_answers.specs.AnswerLaws.{Small, at-most-40}
 use Rattle.job_lines.specs.LineCalled.{Ran, ranAs, lineRan}
 use Rattle.jobs.specs.Jobs.{linesArea, linesText}

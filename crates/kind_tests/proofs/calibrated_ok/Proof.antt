@@ -1,3 +1,4 @@
+-- By the form: a plane has one direction, a single form one pair, a double form two, and the test of two pairs is that of each, joined by `and`.
 use mathlib.Core.Path.{_≡_, sym, ap, ap₂, _∙_, subst}
 use mathlib.Core.Bool.{Bool, _&&_, and-true}
 use mathlib.Core.List.{List, [], _∷_}

@@ -1,3 +1,4 @@
+-- Each touch's axis and direction are read as they are stored; `every` over the two touches is the `and` of their tests.
 use mathlib.Core.Path.{_≡_, sym, ap, ap₂, _∙_}
 use mathlib.Core.Bool.{_&&_, and-true}
 use mir.Syntax.{w64}

@@ -1,3 +1,4 @@
+-- By the form: the rule is a conjunction over the positions, centres and setpoint it uses, and the code tests each of these.
 use mathlib.Core.Path.{_≡_, sym, ap, ap₂, _∙_}
 use mathlib.Core.Bool.{Bool, true, _&&_, and-true}
 use mathlib.Core.List.{List, [], _∷_}

@@ -1,3 +1,4 @@
+-- The form is double, so that there are two pairs; both have the directions of the kind, and the set centres are read as they are.
 use mathlib.Core.Path.{_≡_}
 use mir.Syntax.{w64}
 use mir.Val.{ofZ, toZ}

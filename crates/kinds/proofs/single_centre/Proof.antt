@@ -1,3 +1,4 @@
+-- By the axis: on 1 and on 2 the set centre is that argument, on any other it is 0; whether it is inside makes no difference.
 use mathlib.Core.Path.{_≡_, sym, ap, _∙_}
 use mathlib.Core.List.{[], _∷_}
 use Prim.Native.Nat.{ℕ}

@@ -1,3 +1,4 @@
+-- The form is single, so the kind has one pair: its directions are by the contract of ways_of, its centre by that of single_centre.
 use borrow.Author.Needs.{needs}
 use Rattle.signed.specs.CodeLaws.{read}
 use Rattle.kinds.proofs.single_pair.Statement.{statement}

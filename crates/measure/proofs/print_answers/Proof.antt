@@ -1,3 +1,4 @@
+-- By the contract of `run_job`: its output ends within the buffer, and an empty job is refused with number 11, as the report asks.
 use mathlib.Core.Path.{sym}
 use Prim.Native.Nat.{_≤_}
 use lib.ListN.{length}

@@ -1,3 +1,4 @@
+-- By cases: a wrong area, a length other than 80, or both halves of the block written, each to its section.
 use native.Mathlib.Omega.{arith}
 use lib.ListN.{length, length-take}
 use borrow.Author.Needs.{needs}

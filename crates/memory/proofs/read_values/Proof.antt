@@ -1,3 +1,4 @@
+-- After i turns the first i entries are the values of the section's first i records; each record is one number, and 20 turns give them all.
 use mathlib.Core.Path.{_≡_, refl, sym, ap, _∙_}
 use mathlib.Core.List.{List, [], map, append-nil}
 use Prim.Native.Nat.{ℕ, _+_, _-_, _≤_, _<_}

@@ -1,3 +1,4 @@
+-- A wrong area comes first; else both sections are read as their values, and the answer and the buffer are those of `save_memory` on them.
 use borrow.Author.Needs.{needs}
 use Rattle.memory.specs.BlockCallLaws.{save-wrong, save-done}
 use Rattle.memory.proofs.save.Statement.{statement}

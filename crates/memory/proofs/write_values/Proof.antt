@@ -1,3 +1,4 @@
+-- After i turns the area is that of the start with the first i values written from the place on; at 20 these are all of them.
 use mathlib.Core.Path.{_≡_, ap, _∙_}
 use mathlib.Core.List.{List}
 use Prim.Native.Nat.{_-_, _≤_}

@@ -1,3 +1,4 @@
+-- Each of the three numbers read is that of the record, and the record of them is the one that the area holds under n.
 use native.Mathlib.Omega.{arith}
 use Rattle.signed.specs.RangeLaws.{or-zero}
 use Rattle.rules.specs.Stores.{offsets}

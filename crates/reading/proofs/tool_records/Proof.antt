@@ -1,3 +1,4 @@
+-- Each record's number is in range by the numbers' rules, so that each call reads the record that the area holds under it.
 use mathlib.Core.Path.{_∙_}
 use native.Mathlib.Omega.{arith}
 use mir.Syntax.{w16}

@@ -1,3 +1,4 @@
+-- The tool's number names a record of the area; numbers 0 and 1 of it are its radius and its length, and that record is the wear held.
 use native.Mathlib.Omega.{arith}
 use Rattle.signed.specs.RangeLaws.{or-zero}
 use Rattle.rules.specs.Stores.{tools}

@@ -1,3 +1,4 @@
+-- The probe's number and the offset's are in range by the precondition; each record read is then that of the stored number.
 use Rattle.signed.specs.CodeLaws.{read}
 use Rattle.rules.specs.Zero.{zeroKindOf}
 use Rattle.kinds.specs.KindLaws.{probe-number}

@@ -1,3 +1,4 @@
+-- The sizes' numbers are those of the kind; the arguments passed, so TSA and the offset's number are small, and each is stored as it is.
 use native.Mathlib.Omega.{arith}
 use lib.IntN.{pos}
 use borrow.Author.Needs.{needs}

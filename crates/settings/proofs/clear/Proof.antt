@@ -1,3 +1,4 @@
+-- After i turns the first i numbers are those of a list of zeros and the rest are as before; at the end i is the length.
 use mathlib.Core.Path.{_≡_, refl, ap, _∙_}
 use mathlib.Core.List.{append-nil}
 use Prim.Native.Nat.{ℕ, _-_, _≤_}

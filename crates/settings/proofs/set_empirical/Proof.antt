@@ -1,3 +1,4 @@
+-- By cases: a wrong area, a rule that refuses, or none; then the value is in its range, so that i32 holds it as it is.
 use mathlib.Core.Path.{_≡_, refl, sym, _∙_}
 use native.Mathlib.Omega.{arith}
 use mir.Syntax.{w32}

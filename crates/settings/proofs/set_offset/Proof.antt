@@ -1,3 +1,4 @@
+-- A wrong area comes first, then the rules of the arguments; where these pass, each value fits 32 bits, so that it is stored as it is.
 use mathlib.Core.Path.{_≡_, refl, sym, _∙_}
 use native.Mathlib.Omega.{arith}
 use mir.Syntax.{w32}

@@ -1,3 +1,4 @@
+-- Three cases: a wrong area, a refusal by the rules, or none; the rules then bound both wears, so that they are stored as they are.
 use mathlib.Core.Path.{_≡_, refl, sym, _∙_}
 use native.Mathlib.Omega.{arith}
 use mir.Syntax.{w32}

@@ -1,3 +1,4 @@
+-- By the touch's number: 1 to 4 each read their raw, and any other number is outside the list of raws, where 0 is read.
 use mathlib.Core.Path.{_≡_, sym, ap, _∙_}
 use mathlib.Core.List.{[], _∷_}
 use Prim.Native.Nat.{ℕ}

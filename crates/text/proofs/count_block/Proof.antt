@@ -1,3 +1,4 @@
+-- At each turn n lines are counted and n ≤ i: all lines are n and those of the bytes from i on; at the end none is left.
 use mathlib.Core.Path.{_≡_, ap}
 use mathlib.Core.Logic.{⊎-elim}
 use Prim.Native.Nat.{_+_, _≤_, _-_}

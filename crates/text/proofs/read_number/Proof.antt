@@ -1,3 +1,4 @@
+-- By the sign and the digits behind it: bad digits, no sign, a minus before 0, a minus before another number, each by its law of reading.
 use mathlib.Core.Path.{subst}
 use mathlib.Core.List.{List}
 use mathlib.Core.Logic.{⊎-elim, inl, inr}

@@ -1,3 +1,4 @@
+-- By the five branches: in each the number is that of the definition.
 use mathlib.Core.Path.{_≡_, refl}
 use borrow.Author.Needs.{needs}
 use Rattle.package.specs.declared.found.Branch.the-variants.{One, Two, Three, Four, Five}

@@ -1,3 +1,4 @@
+-- The number of a branch is 1 to 5, by its five cases, so that one less is an index of the five values.
 use mathlib.Core.Path.{_∙_, ap}
 use Prim.Native.Nat.{ℕ, _-_, _≤_}
 use native.Mathlib.Omega.{arith}

@@ -1,3 +1,4 @@
+-- The sizes of m and d bound m - d, so that it does not overflow; the result is by the contract of the rounded quotient.
 use mathlib.Core.Path.{ap₂, _∙_}
 use native.Mathlib.Omega.{arith}
 use lib.IntN.{ℤ, natAbs}

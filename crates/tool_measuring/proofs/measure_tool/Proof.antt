@@ -1,3 +1,4 @@
+-- By the cases of the reply: an area of another length, no room, refused or done; the last two are what the evaluation ensures, then written.
 use mathlib.Core.Path.{_≡_, sym, subst, ap, _∙_}
 use mathlib.Core.Bool.{true}
 use Prim.Native.Nat.{_+_, _≤_}
@@ -18,7 +19,7 @@ use Rattle.rules.specs.Calls.{measureTool, toolRead, refusal}
 use Rattle.rules.specs.EvaluationLaws.{refusal-small}
 use Rattle.area.specs.Table.{held}
 use Rattle.measuring.specs.ReplyLaws.{Way, toolWay, wrong-area, no-room, refused, done}
-use Rattle.tool_outcome.specs.Outcome.{ToolEvaluated}
+use Rattle.tool_outcome.specs.ToolOutcome.{ToolEvaluated}
 use Rattle.tool_outcome.specs.declared.ToolOutcome.{ToolOutcome}
 use Rattle.tool_measuring.proofs.measure_tool.Statement.{statement}
 use Rattle.tool_measuring.proofs.measure_tool.Tie as tie

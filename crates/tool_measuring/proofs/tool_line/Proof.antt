@@ -1,3 +1,4 @@
+-- By cases: a wrong area; a refusal, which leaves the area as it was; or done, with the evaluation and the area of the outcome.
 use mathlib.Core.Path.{_≡_, sym, subst, ap, _∙_}
 use borrow.Author.Needs.{needs}
 use Rattle.signed.specs.CodeLaws.{read}
@@ -6,7 +7,7 @@ use Rattle.rules.specs.Measuring.{lent}
 use Rattle.rules.specs.Calls.{Call, measureTool}
 use Rattle.area.specs.CalledLaws.{call-wrong, call-refused, call-done}
 use Rattle.measuring.specs.ReplyLaws.{kept}
-use Rattle.tool_outcome.specs.Outcome.{ToolEvaluated}
+use Rattle.tool_outcome.specs.ToolOutcome.{ToolEvaluated}
 use Rattle.tool_outcome.specs.declared.ToolOutcome.{ToolOutcome}
 use Rattle.tool_measuring.proofs.tool_line.Statement.{statement}
 use Rattle.tool_measuring.proofs.tool_line.Tie as tie

@@ -1,3 +1,4 @@
+-- Field by field: each test is that of the rule, with the magnitude, limits and wear read back as they are; the deviation is small by what was found.
 use mathlib.Core.Path.{ap, _∙_}
 use native.Mathlib.Omega.{arith}
 use lib.Signed.{leZ}

@@ -1,3 +1,4 @@
+-- The mean value is in range, so that it is stored as it is; the wears are then written to the area that this leaves.
 use mathlib.Core.Path.{refl, ap, _∙_}
 use mathlib.Core.List.{List}
 use native.Mathlib.Omega.{arith}

@@ -1,3 +1,4 @@
+-- By the form: a plane's is twice the sign of its direction, and a sign is at most 1 in size; a pair's is the sign of its side.
 use mathlib.Core.Path.{_≡_, _∙_, ap}
 use Prim.Native.Nat.{_≤_}
 use lib.IntN.{ℤ, pos, natAbs, _*ℤ_}

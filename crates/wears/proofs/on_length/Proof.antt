@@ -1,3 +1,4 @@
+-- By the form: for a plane the comparison of the axis with 3 decides, and for pairs it is false by definition.
 use mir.Facts.{toZ-ofZ}
 use borrow.Author.Needs.{needs}
 use Rattle.wears.proofs.on_length.Statement.{statement}

@@ -1,3 +1,4 @@
+-- The wear, the factor (at most 2 in size, by the form) and the correction are bounded, so that the code's sum and product are exact.
 use mathlib.Core.Path.{_≡_, ap, ap₂, _∙_}
 use mathlib.Core.Bool.{Bool, true, false, cond}
 use Prim.Native.Nat.{_≤_}

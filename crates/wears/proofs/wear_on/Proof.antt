@@ -1,3 +1,4 @@
+-- Two cases, by the wear asked for: a wear is of 32 bits, so that as i64 it is the same number, of magnitude at most 2^31.
 use mathlib.Core.Path.{refl}
 use lib.Signed.{natAbs-le}
 use mir.Syntax.{w32, w64}

@@ -1,3 +1,4 @@
+-- Two cases, by whether the length wear is the corrected one; the new wear is in range, so that it is stored as it is.
 use mathlib.Core.Path.{_≡_, sym, _∙_}
 use lib.IntN.{pos}
 use mir.Syntax.{w32}

@@ -1,3 +1,4 @@
+-- Each turn keeps the area's length, and the place in the text grows, as the next one is behind the end that was found.
 use mathlib.Core.Path.{_≡_}
 use Prim.Native.Nat.{_-_}
 use lib.ListN.{length}

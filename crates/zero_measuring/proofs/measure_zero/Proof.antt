@@ -1,3 +1,4 @@
+-- By cases: wrong area, no room, refused, done; in the last two the numbers written are those of the outcome of the evaluation.
 use mathlib.Core.Path.{_≡_, sym, subst, ap, _∙_}
 use mathlib.Core.Bool.{true}
 use Prim.Native.Nat.{_+_, _≤_}
@@ -18,7 +19,7 @@ use Rattle.rules.specs.Calls.{measureZero, zeroRead, refusal}
 use Rattle.rules.specs.EvaluationLaws.{refusal-small}
 use Rattle.area.specs.Table.{held}
 use Rattle.measuring.specs.ReplyLaws.{Way, zeroWay, wrong-area, no-room, refused, done}
-use Rattle.zero_outcome.specs.Outcome.{ZeroEvaluated}
+use Rattle.zero_outcome.specs.ZeroOutcome.{ZeroEvaluated}
 use Rattle.zero_outcome.specs.declared.ZeroOutcome.{ZeroOutcome}
 use Rattle.zero_measuring.proofs.measure_zero.Statement.{statement}
 use Rattle.zero_measuring.proofs.measure_zero.Tie as tie

@@ -1,3 +1,4 @@
+-- By cases: an area of wrong length, a refused evaluation, or a done one; each is the call's answer by the law of that case.
 use mathlib.Core.Path.{_≡_, sym, subst, ap, _∙_}
 use borrow.Author.Needs.{needs}
 use Rattle.signed.specs.CodeLaws.{read}
@@ -6,7 +7,7 @@ use Rattle.rules.specs.Measuring.{lent}
 use Rattle.rules.specs.Calls.{Call, measureZero}
 use Rattle.area.specs.CalledLaws.{call-wrong, call-refused, call-done}
 use Rattle.measuring.specs.ReplyLaws.{kept}
-use Rattle.zero_outcome.specs.Outcome.{ZeroEvaluated}
+use Rattle.zero_outcome.specs.ZeroOutcome.{ZeroEvaluated}
 use Rattle.zero_outcome.specs.declared.ZeroOutcome.{ZeroOutcome}
 use Rattle.zero_measuring.proofs.zero_line.Statement.{statement}
 use Rattle.zero_measuring.proofs.zero_line.Tie as tie

@@ -17,7 +17,7 @@ use Rattle.rules.specs.Changes.{write}
 use Rattle.rules.specs.Calls.{zeroRead}
 use Rattle.area.specs.Table.{held}
 use Rattle.area.specs.Renewed.{renewed}
-use Rattle.zero_offset.specs.Zero.{ZeroFound, found-small}
+use Rattle.zero_offset.specs.ZeroFound.{ZeroFound, found-small}
 use Rattle.measuring.specs.ReplyLaws.{argument-refusal, refused-keeps}
 use Rattle.zero_outcome.proofs.evaluate_zero.Statement.{statement}
 use Rattle.zero_outcome.proofs.evaluate_zero.Tie as tie

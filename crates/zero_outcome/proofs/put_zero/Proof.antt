@@ -1,3 +1,4 @@
+-- By the contract of put_record: the offset's number passed its test, so that it names a record, and it is read as the number it is.
 use native.Mathlib.Omega.{arith}
 use borrow.Author.Needs.{needs}
 use Rattle.signed.specs.CodeLaws.{read}

@@ -1,3 +1,4 @@
+-- Where the refusal is not 11 the job is not empty, by the contract's premise; so the job has the byte that wrong_job requires.
 use mathlib.Core.Path.{_≡_}
 use native.Mathlib.Omega.{arith}
 use lib.ListN.{length}

@@ -1,3 +1,4 @@
+-- Nothing is claimed of the output, so the loop has no invariant: it ends, since the values left grow fewer.
 use Prim.Native.Nat.{_-_}
 use lib.ListN.{length}
 use borrow.Author.Needs.{needs}

@@ -1,3 +1,4 @@
+-- The loop needs no invariant: its test keeps the index within the bytes, and each turn leaves fewer bytes.
 use Prim.Native.Nat.{_-_}
 use lib.ListN.{length}
 use borrow.Author.Needs.{needs}

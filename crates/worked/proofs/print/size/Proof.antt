@@ -1,3 +1,4 @@
+-- By the sign: 64 bits hold the number and its negation, and what is cast, the magnitude, is not negative.
 use mathlib.Core.Path.{_∙_}
 use native.Mathlib.Omega.{arith}
 use lib.IntN.{pos}
@@ -6,7 +7,7 @@ use mir.Syntax.{w32, w64}
 use borrow.Author.Needs.{needs}
 use Rattle.signed.specs.Expressions.{Ex, any, lit, sub, cast, Runs, run}
 use Rattle.signed.specs.RangeLaws.{lt-taken, lt-left}
-use Rattle.signed.specs.Sizes.{below-zero, abs-of}
+use Rattle.signed.specs.Magnitudes.{below-zero, abs-of}
 use Rattle.worked.proofs.print.size.Statement.{statement}
 use Rattle.worked.proofs.print.size.Tie as tie
 

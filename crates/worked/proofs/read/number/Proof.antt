@@ -1,3 +1,4 @@
+-- A magnitude that passed the test is below 2^63, so that the cast keeps it and its negation fits.
 use Prim.Native.Nat.{ℕ, _<_, _^_}
 use native.Mathlib.Omega.{arith}
 use lib.IntN.{pos, _-ℤ_}
@@ -5,7 +6,7 @@ use mir.Syntax.{w64}
 use mir.Val.{SFits}
 use mir.Facts.{toZ-pos}
 use borrow.Author.Needs.{needs}
-use Rattle.signed.specs.Sizes.{abs-sub, fits-abs}
+use Rattle.signed.specs.Magnitudes.{abs-sub, fits-abs}
 use Rattle.worked.proofs.read.number.Statement.{statement}
 use Rattle.worked.proofs.read.number.Tie as tie
 

@@ -1,3 +1,4 @@
+-- Nothing is claimed of the fields, so the loop has no invariant: each read is at i below the length, and the bytes left grow fewer.
 use Prim.Native.Nat.{_-_}
 use lib.ListN.{length}
 use borrow.Author.Needs.{needs}

@@ -1,3 +1,4 @@
+-- The cast is made only where the range test passed, and a number in that range fits 32 bits.
 use mathlib.Core.Path.{_≡_, sym, _∙_}
 use mathlib.Core.Bool.{true}
 use lib.IntN.{pos, negsuc}
