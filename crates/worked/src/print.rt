@@ -52,7 +52,7 @@ pub fn part(values: &[i32], from: usize, count: usize) -> &[i32] {
     &values[0..0]
 }
 
-// The record of a section with this number, counted from 1; none where there is no such record.
+// The record of a section with this number, counted from 1; none where there is no such record. No call of a user.
 pub fn record(area: &[i32], s: Section, n: usize) -> &[i32]
     requires { ⌜ end s ≤ areaLength ⌝ }
 {
@@ -71,7 +71,7 @@ fn start(s: Section, i: usize) -> usize
     s.at + s.width * i
 }
 
-// All numbers of a section.
+// All numbers of a section. No call of a user.
 pub fn section(area: &[i32], s: Section) -> &[i32]
     requires { ⌜ end s ≤ areaLength ⌝ }
 {
