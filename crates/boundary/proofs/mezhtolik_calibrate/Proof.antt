@@ -3,12 +3,6 @@ use borrow.Author.Needs.{needs}
 use Rattle.boundary.proofs.mezhtolik_calibrate.Statement.{statement}
 use Rattle.boundary.proofs.mezhtolik_calibrate.Tie as tie
 
-calibrate-by-requires : tie.Need-calibrate-by-requires
-calibrate-by-requires c κs = search needs
-
-same-length : tie.Need-same-length
-same-length c = search needs
-
 returns : tie.Need-returns
 returns c = let s = c .before .before .before in rw (
   toZ-ofZ (s .fits .probe),
@@ -21,4 +15,4 @@ returns c = let s = c .before .before .before in rw (
 ) at (c .before .calibrate-by .ensures)
 
 pub mezhtolik-calibrate-spec : {M : Type 1} → statement M
-mezhtolik-calibrate-spec = tie.close (tie.spec calibrate-by-requires same-length returns)
+mezhtolik-calibrate-spec = tie.close (tie.spec (λ c κs. search needs) (λ c. search needs) returns)

@@ -11,16 +11,10 @@ use Rattle.boundary.proofs.mezhtolik_measure_zero.Tie as tie
 abbrev wanted : tie.Start → Reply
 wanted s = zeroReplied (s .args .area .now) (zeroOf (s .args .numbers .now)) (s .args .results .now) (s .args .place)
 
-not-decided-requires : tie.Need-not-decided-requires
-not-decided-requires c κs = search needs
-
 returns : tie.Need-returns
 returns c =
     let s = c .before .before in
     rw (c .not-decided .ensures) (exported-wrong (s .args .area .now) (s .args .numbers .now) (s .args .results .now) 13 (wanted s) (c .before .if1 .taken))
-
-not-decided-requires-2 : tie.Need-not-decided-requires-2
-not-decided-requires-2 c κs = search needs
 
 returns-2 : tie.Need-returns-2
 returns-2 c =
@@ -29,18 +23,6 @@ returns-2 c =
     let s = e .before in
     rw (c .not-decided2 .ensures)
     (exported-short (s .args .area .now) (s .args .numbers .now) (s .args .results .now) 13 (wanted s) (e .if1 .left) (t .if2 .taken))
-
-zero-of-requires : tie.Need-zero-of-requires
-zero-of-requires c κs = search needs
-
-measure-zero-requires : tie.Need-measure-zero-requires
-measure-zero-requires c κs = search needs
-
-same-length : tie.Need-same-length
-same-length c = search needs
-
-same-length-2 : tie.Need-same-length-2
-same-length-2 c = search needs
 
 returns-3 : tie.Need-returns-3
 returns-3 c =
@@ -55,4 +37,5 @@ returns-3 c =
 pub mezhtolik-measure-zero-spec : {M : Type 1} → statement M
 mezhtolik-measure-zero-spec =
     tie.close
-    (tie.spec not-decided-requires returns not-decided-requires-2 returns-2 zero-of-requires measure-zero-requires same-length same-length-2 returns-3)
+    (tie.spec (λ c κs. search needs) returns (λ c κs. search needs) returns-2 (λ c κs. search needs) (λ c κs. search needs) (λ c. search needs)
+    (λ c. search needs) returns-3)

@@ -3,11 +3,8 @@ use borrow.Author.Needs.{needs}
 use Rattle.boundary.proofs.mezhtolik_probe_status.Statement.{statement}
 use Rattle.boundary.proofs.mezhtolik_probe_status.Tie as tie
 
-probe-status-requires : tie.Need-probe-status-requires
-probe-status-requires c κs = search needs
-
 returns : tie.Need-returns
 returns c = let s = c .before in rw (toZ-ofZ (s .fits .probe)) at (c .probe-status .ensures)
 
 pub mezhtolik-probe-status-spec : {M : Type 1} → statement M
-mezhtolik-probe-status-spec = tie.close (tie.spec probe-status-requires returns)
+mezhtolik-probe-status-spec = tie.close (tie.spec (λ c κs. search needs) returns)

@@ -3,14 +3,8 @@ use borrow.Author.Needs.{needs}
 use Rattle.boundary.proofs.mezhtolik_set_empirical.Statement.{statement}
 use Rattle.boundary.proofs.mezhtolik_set_empirical.Tie as tie
 
-set-empirical-requires : tie.Need-set-empirical-requires
-set-empirical-requires c κs = search needs
-
-same-length : tie.Need-same-length
-same-length c = search needs
-
 returns : tie.Need-returns
 returns c = let s = c .before .before .before in rw (toZ-ofZ (s .fits .ev), toZ-ofZ (s .fits .value)) at (c .before .set-empirical .ensures)
 
 pub mezhtolik-set-empirical-spec : {M : Type 1} → statement M
-mezhtolik-set-empirical-spec = tie.close (tie.spec set-empirical-requires same-length returns)
+mezhtolik-set-empirical-spec = tie.close (tie.spec (λ c κs. search needs) (λ c. search needs) returns)

@@ -3,15 +3,9 @@ use borrow.Author.Needs.{needs}
 use Rattle.boundary.proofs.mezhtolik_set_offset.Statement.{statement}
 use Rattle.boundary.proofs.mezhtolik_set_offset.Tie as tie
 
-set-offset-requires : tie.Need-set-offset-requires
-set-offset-requires c κs = search needs
-
-same-length : tie.Need-same-length
-same-length c = search needs
-
 returns : tie.Need-returns
 returns c = let s = c .before .before .before in
     rw (toZ-ofZ (s .fits .offset), toZ-ofZ (s .fits .v1), toZ-ofZ (s .fits .v2), toZ-ofZ (s .fits .v3)) at (c .before .set-offset .ensures)
 
 pub mezhtolik-set-offset-spec : {M : Type 1} → statement M
-mezhtolik-set-offset-spec = tie.close (tie.spec set-offset-requires same-length returns)
+mezhtolik-set-offset-spec = tie.close (tie.spec (λ c κs. search needs) (λ c. search needs) returns)

@@ -28,9 +28,6 @@ use Rattle.calibrating.proofs.calibrate.Tie as tie
 returns : tie.Need-returns
 returns c = let s = c .before in call-wrong (s .args .area .now) (calibrate (s .args .a)) (c .if1 .taken)
 
-calibration-refusal-requires : tie.Need-calibration-refusal-requires
-calibration-refusal-requires c κs = search needs
-
 returns-2 : tie.Need-returns-2
 returns-2 c =
     let e = c .before .before in
@@ -83,9 +80,6 @@ number-at-requires c κs = let p = c .before in (omega (arith, whole p), (probe-
 number-at-requires-2 : tie.Need-number-at-requires-2
 number-at-requires-2 c κs = let p = c .before .before .before in (omega (arith, whole p), (probe-named p, omega arith))
 
-status-from-requires : tie.Need-status-from-requires
-status-from-requires c κs = search needs
-
 calibrate-direction-requires : tie.Need-calibrate-direction-requires
 calibrate-direction-requires c κs = let p = c .before .before .before .before .before in (passed (checked p), place-is p)
 
@@ -102,9 +96,6 @@ found-is c =
     ∙ ap₂ (λ (z : ℤ) (n : ℕ). calibratedWith z n (start p .args .a))
     (read-as w32 (one .number-at .result) (one .number-at .ok) ∙ rw (probe-read p) at (one .number-at .ensures))
     (s .status-from .ensures ∙ ap statusFrom (read-as w32 (two .number-at2 .result) (two .number-at2 .ok) ∙ rw (probe-read p) at (two .number-at2 .ensures)))
-
-same-length : tie.Need-same-length
-same-length c = search needs
 
 returns-3 : tie.Need-returns-3
 returns-3 c =
@@ -138,9 +129,6 @@ put-number-requires-2 c κs =
     let p = placed (w .before .before .before .before .before) in
     (omega (arith, whole p, w .put-number .kept .0), (probe-named p, omega arith))
 
-same-length-2 : tie.Need-same-length-2
-same-length-2 c = search needs
-
 returns-4 : tie.Need-returns-4
 returns-4 c =
     let second = c .before in
@@ -157,5 +145,6 @@ returns-4 c =
 pub calibrate-spec : {M : Type 1} → statement M
 calibrate-spec =
     tie.close
-    (tie.spec returns calibration-refusal-requires returns-2 place-of-requires sub-number-at number-at-requires number-at-requires-2 status-from-requires
-    calibrate-direction-requires same-length returns-3 sub-put-number put-number-requires cast-put-number put-number-requires-2 same-length-2 returns-4)
+    (tie.spec returns (λ c κs. search needs) returns-2 place-of-requires sub-number-at number-at-requires number-at-requires-2 (λ c κs. search needs)
+    calibrate-direction-requires (λ c. search needs) returns-3 sub-put-number put-number-requires cast-put-number put-number-requires-2 (λ c. search needs)
+    returns-4)

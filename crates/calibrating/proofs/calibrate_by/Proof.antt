@@ -3,12 +3,6 @@ use borrow.Author.Needs.{needs}
 use Rattle.calibrating.proofs.calibrate_by.Statement.{statement}
 use Rattle.calibrating.proofs.calibrate_by.Tie as tie
 
-calibrate-requires : tie.Need-calibrate-requires
-calibrate-requires c κs = search needs
-
-same-length : tie.Need-same-length
-same-length c = search needs
-
 returns : tie.Need-returns
 returns c = let s = c .before .before .before in rw (
   toZ-ofZ (s .fits .probe),
@@ -21,4 +15,4 @@ returns c = let s = c .before .before .before in rw (
 ) at (c .before .calibrate .ensures)
 
 pub calibrate-by-spec : {M : Type 1} → statement M
-calibrate-by-spec = tie.close (tie.spec calibrate-requires same-length returns)
+calibrate-by-spec = tie.close (tie.spec (λ c κs. search needs) (λ c. search needs) returns)

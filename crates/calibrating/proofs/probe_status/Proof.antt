@@ -14,20 +14,11 @@ use Rattle.calibrating.specs.StatusLaws.{status-wrong, status-refused, s
 use Rattle.calibrating.proofs.probe_status.Statement.{statement}
 use Rattle.calibrating.proofs.probe_status.Tie as tie
 
-no-status-requires : tie.Need-no-status-requires
-no-status-requires c κs = search needs
-
 returns : tie.Need-returns
 returns c = let s = c .before .before in c .no-status .ensures ∙ status-wrong (s .args .area .now) (c .before .if1 .taken) (s .args .probe)
 
-in-range-requires : tie.Need-in-range-requires
-in-range-requires c κs = search needs
-
 number : (c : tie.After-in-range) → c .in-range .result ≡ probeNumber (c .before .before .args .probe)
 number c = rw (toZ-ofZ (c .before .before .fits .probe)) at (c .in-range .ensures)
-
-no-status-requires-2 : tie.Need-no-status-requires-2
-no-status-requires-2 c κs = search needs
 
 returns-2 : tie.Need-returns-2
 returns-2 c =
@@ -44,12 +35,6 @@ number-at-requires c κs =
     let e = c .before .before in
     (omega (arith, e .if1 .left), (rw (toZ-ofZ (e .before .fits .probe)) (or-zero 3 (e .before .args .probe) (allowed c)), omega arith))
 
-status-from-requires : tie.Need-status-from-requires
-status-from-requires c κs = search needs
-
-status-answer-requires : tie.Need-status-answer-requires
-status-answer-requires c κs = search needs
-
 returns-3 : tie.Need-returns-3
 returns-3 c =
     let f = c .before in
@@ -65,5 +50,5 @@ returns-3 c =
 pub probe-status-spec : {M : Type 1} → statement M
 probe-status-spec =
     tie.close
-    (tie.spec no-status-requires returns in-range-requires no-status-requires-2 returns-2 number-at-requires status-from-requires status-answer-requires
-    returns-3)
+    (tie.spec (λ c κs. search needs) returns (λ c κs. search needs) (λ c κs. search needs) returns-2 number-at-requires (λ c κs. search needs)
+    (λ c κs. search needs) returns-3)

@@ -37,28 +37,13 @@ loop-holds c = let s = c .before .before in (s .pre, omega arith, rw (c .digit-c
 sub-k : tie.Need-sub-k Inv-loop μ-loop
 sub-k c = omega (arith, some c)
 
-cast-out : tie.Need-cast-out Inv-loop μ-loop
-cast-out c = search needs
-
-add-out : tie.Need-add-out Inv-loop μ-loop
-add-out c = search needs
-
 slice-write-out : tie.Need-slice-write-out Inv-loop μ-loop
 slice-write-out c = let i = c .before .loop .inv in omega (arith, some c, within (i .0) (i .2), same-size (i .0) (i .2))
-
-loop-less : tie.Need-loop-less Inv-loop μ-loop
-loop-less c = search needs
 
 loop-again : tie.Need-loop-again Inv-loop μ-loop
 loop-again c =
     let l = c .before in
     (l .loop .inv .0, omega arith, next-digit (l .loop .inv .0) (l .loop .inv .2) (l .loop .k - 1) (some c) (omega arith) (bounded l))
-
-cast-out-2 : tie.Need-cast-out-2 Inv-loop μ-loop
-cast-out-2 c = search needs
-
-add-out-2 : tie.Need-add-out-2 Inv-loop μ-loop
-add-out-2 c = search needs
 
 slice-write-out-2 : tie.Need-slice-write-out-2 Inv-loop μ-loop
 slice-write-out-2 c =
@@ -74,5 +59,5 @@ returns c = let l = c .before in (omega (arith, l .before .digit-count .ensures)
 pub put-whole-spec : {M : Type 1} → statement M
 put-whole-spec =
     tie.close
-    (tie.spec Inv-loop μ-loop digit-count-requires add-end loop-holds sub-k cast-out add-out slice-write-out loop-less loop-again cast-out-2 add-out-2
-    slice-write-out-2 same-length returns)
+    (tie.spec Inv-loop μ-loop digit-count-requires add-end loop-holds sub-k (λ c. search needs) (λ c. search needs) slice-write-out (λ c. search needs)
+    loop-again (λ c. search needs) (λ c. search needs) slice-write-out-2 same-length returns)

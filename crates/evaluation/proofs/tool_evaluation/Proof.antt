@@ -5,12 +5,6 @@ use Rattle.evaluation.proofs.Laws.{narrowed}
 use Rattle.evaluation.proofs.tool_evaluation.Statement.{statement}
 use Rattle.evaluation.proofs.tool_evaluation.Tie as tie
 
-branch-number-requires : tie.Need-branch-number-requires
-branch-number-requires c κs = search needs
-
-verdict-of-requires : tie.Need-verdict-of-requires
-verdict-of-requires c κs = search needs
-
 returns : tie.Need-returns
 returns c =
     let d = c .before .before in
@@ -37,4 +31,4 @@ cast-t9 c =
     narrowed (s .args .f .decision .correction) (s .pre .decision .correction) .fits
 
 pub tool-evaluation-spec : {M : Type 1} → statement M
-tool-evaluation-spec = tie.close (tie.spec branch-number-requires verdict-of-requires cast-t8 cast-t9 returns)
+tool-evaluation-spec = tie.close (tie.spec (λ c κs. search needs) (λ c κs. search needs) cast-t8 cast-t9 returns)

@@ -16,17 +16,11 @@ use Rattle.sizes.specs.SizeLaws.{SizesSmall}
 use Rattle.growths.proofs.growth_of.Statement.{statement}
 use Rattle.growths.proofs.growth_of.Tie as tie
 
-corrects-on-requires : tie.Need-corrects-on-requires
-corrects-on-requires c κs = search needs
-
 corrected : (c : tie.After-corrects-on) → let s = c .before .args in c .corrects-on .result ≡ corrects (s .k) (s .a) (s .n)
 corrected c = rw (toZ-ofZ (c .before .fits .n)) at (c .corrects-on .ensures)
 
 returns : tie.Need-returns
 returns c = rw (failed (corrected (c .before)) (c .if1 .taken)) (refl, omega arith)
-
-enum-told : tie.Need-enum-told
-enum-told c = search needs
 
 -- ---- a plane: twice its deviation
 difference-of-requires : tie.Need-difference-of-requires
@@ -49,9 +43,6 @@ mul-result : tie.Need-mul-result
 mul-result c = search (runs c .asks)
 
 -- ---- a pair: its shift
-shift-on-requires : tie.Need-shift-on-requires
-shift-on-requires c κs = search needs
-
 shift-size : (s : Sizes) → SizesSmall s → (n : ℤ) → natAbs (pairIn s n .shift) ≤ 100000000
 shift-size s t (pos zero) = omega arith
 shift-size s t (pos (suc zero)) = omega (arith, t .abscissa .shift)
@@ -71,4 +62,4 @@ returns-3 c =
 pub growth-of-spec : {M : Type 1} → statement M
 growth-of-spec =
     tie.close
-    (tie.spec corrects-on-requires returns enum-told difference-of-requires mul-result shift-on-requires returns-2 returns-3)
+    (tie.spec (λ c κs. search needs) returns (λ c. search needs) difference-of-requires mul-result (λ c κs. search needs) returns-2 returns-3)

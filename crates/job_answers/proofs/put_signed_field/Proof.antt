@@ -21,9 +21,6 @@ put-byte-requires c κs =
     let s = p .before .before .before in
     fits-next _ _ _ _ (signedDecimal (s .args .z)) (s .args .byte ∷ []) (s .pre) (put p)
 
-same-length : tie.Need-same-length
-same-length c = search needs
-
 returns : tie.Need-returns
 returns c =
     let q = c .before .before in
@@ -32,4 +29,4 @@ returns c =
     chain _ _ _ _ _ _ (signedDecimal (s .args .z)) (s .args .byte ∷ []) (s .pre) (put p) (q .put-byte .ensures)
 
 pub put-signed-field-spec : {M : Type 1} → statement M
-put-signed-field-spec = tie.close (tie.spec put-number-requires put-byte-requires same-length returns)
+put-signed-field-spec = tie.close (tie.spec put-number-requires put-byte-requires (λ c. search needs) returns)

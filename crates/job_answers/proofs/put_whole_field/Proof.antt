@@ -15,9 +15,6 @@ put-byte-requires c κs =
     let s = p .before .before .before in
     fits-next _ _ _ _ (decimal (s .args .n)) (s .args .byte ∷ []) (s .pre) (p .put-whole .ensures)
 
-same-length : tie.Need-same-length
-same-length c = search needs
-
 returns : tie.Need-returns
 returns c =
     let q = c .before .before in
@@ -26,4 +23,4 @@ returns c =
     chain _ _ _ _ _ _ (decimal (s .args .n)) (s .args .byte ∷ []) (s .pre) (p .put-whole .ensures) (q .put-byte .ensures)
 
 pub put-whole-field-spec : {M : Type 1} → statement M
-put-whole-field-spec = tie.close (tie.spec put-whole-requires put-byte-requires same-length returns)
+put-whole-field-spec = tie.close (tie.spec put-whole-requires put-byte-requires (λ c. search needs) returns)

@@ -2,11 +2,8 @@ use borrow.Author.Needs.{needs}
 use Rattle.job_text.proofs.no_line.Statement.{statement}
 use Rattle.job_text.proofs.no_line.Tie as tie
 
-find-requires : tie.Need-find-requires
-find-requires c κs = search needs
-
 returns : tie.Need-returns
 returns c = rw (c .find .ensures)
 
 pub no-line-spec : {M : Type 1} → statement M
-no-line-spec = tie.close (tie.spec find-requires returns)
+no-line-spec = tie.close (tie.spec (λ c κs. search needs) returns)

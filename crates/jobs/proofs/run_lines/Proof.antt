@@ -126,12 +126,6 @@ loop-holds c = (omega arith, omega arith, omega arith, c .before .before .pre .0
 sub-read-line : tie.Need-sub-read-line Inv-loop μ-loop
 sub-read-line c = omega arith
 
-part-read-line-start : tie.Need-part-read-line-start Inv-loop μ-loop
-part-read-line-start c = search needs
-
-part-read-line-end : tie.Need-part-read-line-end Inv-loop μ-loop
-part-read-line-end c = search needs
-
 read-line-requires : tie.Need-read-line-requires Inv-loop μ-loop
 read-line-requires c κs =
     let i = c .before .before in
@@ -225,5 +219,5 @@ returns c =
 pub run-lines-spec : {M : Type 1} → statement M
 run-lines-spec =
     tie.close
-    (tie.spec Inv-loop μ-loop loop-holds sub-read-line part-read-line-start part-read-line-end read-line-requires add-number run-line-requires put-row-requires
-    add-at add-at-2 loop-less loop-again same-length same-length-2 same-length-3 returns)
+    (tie.spec Inv-loop μ-loop loop-holds sub-read-line (λ c. search needs) (λ c. search needs) read-line-requires add-number run-line-requires
+    put-row-requires add-at add-at-2 loop-less loop-again same-length same-length-2 same-length-3 returns)

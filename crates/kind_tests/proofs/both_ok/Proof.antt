@@ -6,12 +6,6 @@ use Rattle.rules.specs.Stores.{positionRange}
 use Rattle.kind_tests.proofs.both_ok.Statement.{statement}
 use Rattle.kind_tests.proofs.both_ok.Tie as tie
 
-position-ok-requires : tie.Need-position-ok-requires
-position-ok-requires c κs = search needs
-
-position-ok-requires-2 : tie.Need-position-ok-requires-2
-position-ok-requires-2 c κs = search needs
-
 returns : tie.Need-returns
 returns c =
     let s = c .before .before in
@@ -19,4 +13,4 @@ returns c =
     (c .position-ok2 .ensures ∙ ap positionRange (toZ-ofZ (s .fits .w)) ∙ sym (and-true (positionRange (s .args .w))))
 
 pub both-ok-spec : {M : Type 1} → statement M
-both-ok-spec = tie.close (tie.spec position-ok-requires position-ok-requires-2 returns)
+both-ok-spec = tie.close (tie.spec (λ c κs. search needs) (λ c κs. search needs) returns)

@@ -37,20 +37,11 @@ module _ (status : ℕ) (k : Kind) (a : Probing) where
       rw f (ap₂ (λ p q. calibrated (p .low ∷ p .high ∷ q .low ∷ q .high ∷ [])) (head-same h) (next-same h))
       ∙ every-append (λ t. calibratedIn status (t .way)) (p .low ∷ p .high ∷ []) (q .low ∷ q .high ∷ [])
 
-enum-told : tie.Need-enum-told
-enum-told c = search needs
-
 calibrated-in-requires : tie.Need-calibrated-in-requires
 calibrated-in-requires c κs =
     let s = c .before .before .before .before in
     let n = plane-numbers (s .args .k) (s .args .a) (s .pre) (c .before .before .enum-told .given .1) in
     search needs
-
-enum-told-2 : tie.Need-enum-told-2
-enum-told-2 c = search needs
-
-single-pair-requires : tie.Need-single-pair-requires
-single-pair-requires c κs = search needs
 
 -- where both ends of every pair stand
 abbrev BothPlaced : List Across → Type 0
@@ -60,12 +51,6 @@ pair-calibrated-requires : tie.Need-pair-calibrated-requires
 pair-calibrated-requires c κs =
     let s = c .before .before .before in
     subst BothPlaced (c .single-pair .ensures) (pairs-placed (s .args .k) (s .args .a) (s .pre)) .0
-
-enum-told-3 : tie.Need-enum-told-3
-enum-told-3 c = search needs
-
-both-pairs-requires : tie.Need-both-pairs-requires
-both-pairs-requires c κs = search needs
 
 both-placed : (c : tie.After-both-pairs) → BothPlaced (across (c .both-pairs .result .abscissa) ∷ across (c .both-pairs .result .ordinate) ∷ [])
 both-placed c =
@@ -105,5 +90,5 @@ returns-3 c =
 pub calibrated-ok-spec : {M : Type 1} → statement M
 calibrated-ok-spec =
     tie.close
-    (tie.spec enum-told calibrated-in-requires enum-told-2 single-pair-requires pair-calibrated-requires enum-told-3 both-pairs-requires
-    pair-calibrated-requires-2 pair-calibrated-requires-3 returns returns-2 returns-3)
+    (tie.spec (λ c. search needs) calibrated-in-requires (λ c. search needs) (λ c κs. search needs) pair-calibrated-requires (λ c. search needs)
+    (λ c κs. search needs) pair-calibrated-requires-2 pair-calibrated-requires-3 returns returns-2 returns-3)

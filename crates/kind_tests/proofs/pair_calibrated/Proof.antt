@@ -10,12 +10,6 @@ use Rattle.kinds.specs.Touches.{touch}
 use Rattle.kind_tests.proofs.pair_calibrated.Statement.{statement}
 use Rattle.kind_tests.proofs.pair_calibrated.Tie as tie
 
-calibrated-in-requires : tie.Need-calibrated-in-requires
-calibrated-in-requires c κs = search needs
-
-calibrated-in-requires-2 : tie.Need-calibrated-in-requires-2
-calibrated-in-requires-2 c κs = search needs
-
 -- what the code reads of a touch
 module _ (s : tie.Start) where
   low : on (toZ w64 (ofZ w64 (s .args .p .low .axis))) (toZ w64 (ofZ w64 (s .args .p .low .direction))) ≡ touch (s .args .p .low) .way
@@ -33,4 +27,4 @@ returns c =
     (c .calibrated-in2 .ensures ∙ ap calibrated (high s) ∙ sym (and-true (calibrated (touch (s .args .p .high) .way))))
 
 pub pair-calibrated-spec : {M : Type 1} → statement M
-pair-calibrated-spec = tie.close (tie.spec calibrated-in-requires calibrated-in-requires-2 returns)
+pair-calibrated-spec = tie.close (tie.spec (λ c κs. search needs) (λ c κs. search needs) returns)

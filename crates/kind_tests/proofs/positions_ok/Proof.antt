@@ -40,45 +40,6 @@ module _ (k : Kind) (a : Probing) (q : Raws) where
   of-double f =
       rw f (ap (λ b. b && inRange (a .c1 ∷ a .c2 ∷ []) && widthRange (a .setpoint)) (every-append positionRange (q .r1 ∷ q .r2 ∷ []) (q .r3 ∷ q .r4 ∷ [])))
 
-enum-told : tie.Need-enum-told
-enum-told c = search needs
-
-position-ok-requires : tie.Need-position-ok-requires
-position-ok-requires c κs = search needs
-
-position-ok-requires-2 : tie.Need-position-ok-requires-2
-position-ok-requires-2 c κs = search needs
-
-enum-told-2 : tie.Need-enum-told-2
-enum-told-2 c = search needs
-
-both-ok-requires : tie.Need-both-ok-requires
-both-ok-requires c κs = search needs
-
-single-centre-requires : tie.Need-single-centre-requires
-single-centre-requires c κs = search needs
-
-position-ok-requires-3 : tie.Need-position-ok-requires-3
-position-ok-requires-3 c κs = search needs
-
-width-ok-requires : tie.Need-width-ok-requires
-width-ok-requires c κs = search needs
-
-enum-told-3 : tie.Need-enum-told-3
-enum-told-3 c = search needs
-
-both-ok-requires-2 : tie.Need-both-ok-requires-2
-both-ok-requires-2 c κs = search needs
-
-both-ok-requires-3 : tie.Need-both-ok-requires-3
-both-ok-requires-3 c κs = search needs
-
-both-ok-requires-4 : tie.Need-both-ok-requires-4
-both-ok-requires-4 c κs = search needs
-
-width-ok-requires-2 : tie.Need-width-ok-requires-2
-width-ok-requires-2 c κs = search needs
-
 -- what the code reads of its arguments
 abbrev back : ℤ → ℤ
 back z = toZ w64 (ofZ w64 z)
@@ -137,5 +98,6 @@ returns-3 c =
 pub positions-ok-spec : {M : Type 1} → statement M
 positions-ok-spec =
     tie.close
-    (tie.spec enum-told position-ok-requires position-ok-requires-2 enum-told-2 both-ok-requires single-centre-requires position-ok-requires-3
-    width-ok-requires enum-told-3 both-ok-requires-2 both-ok-requires-3 both-ok-requires-4 width-ok-requires-2 returns returns-2 returns-3)
+    (tie.spec (λ c. search needs) (λ c κs. search needs) (λ c κs. search needs) (λ c. search needs) (λ c κs. search needs) (λ c κs. search needs)
+    (λ c κs. search needs) (λ c κs. search needs) (λ c. search needs) (λ c κs. search needs) (λ c κs. search needs) (λ c κs. search needs)
+    (λ c κs. search needs) returns returns-2 returns-3)

@@ -2,11 +2,8 @@ use borrow.Author.Needs.{needs}
 use Rattle.kind_tests.proofs.width_ok.Statement.{statement}
 use Rattle.kind_tests.proofs.width_ok.Tie as tie
 
-in-range-requires : tie.Need-in-range-requires
-in-range-requires c κs = search needs
-
 returns : tie.Need-returns
 returns c = rw (c .in-range .ensures) (search needs)
 
 pub width-ok-spec : {M : Type 1} → statement M
-width-ok-spec = tie.close (tie.spec in-range-requires returns)
+width-ok-spec = tie.close (tie.spec (λ c κs. search needs) returns)

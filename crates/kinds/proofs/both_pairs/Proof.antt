@@ -7,9 +7,6 @@ use Rattle.signed.specs.CodeLaws.{read}
 use Rattle.kinds.proofs.both_pairs.Statement.{statement}
 use Rattle.kinds.proofs.both_pairs.Tie as tie
 
-ways-of-requires : tie.Need-ways-of-requires
-ways-of-requires c κs = search needs
-
 c2-read : (s : tie.Start) → toZ w64 (ofZ w64 (s .args .a .c2)) ≡ s .args .a .c2
 c2-read s = read (s .args .a .c2) (search needs)
 
@@ -30,4 +27,4 @@ returns c =
     )
 
 pub both-pairs-spec : {M : Type 1} → statement M
-both-pairs-spec = tie.close (tie.spec ways-of-requires returns)
+both-pairs-spec = tie.close (tie.spec (λ c κs. search needs) returns)

@@ -4,12 +4,6 @@ use Rattle.signed.specs.CodeLaws.{read}
 use Rattle.kinds.proofs.single_pair.Statement.{statement}
 use Rattle.kinds.proofs.single_pair.Tie as tie
 
-ways-of-requires : tie.Need-ways-of-requires
-ways-of-requires c κs = search needs
-
-single-centre-requires : tie.Need-single-centre-requires
-single-centre-requires c κs = search needs
-
 returns : tie.Need-returns
 returns c =
     let w = c .before .before .before .before .before in
@@ -28,4 +22,4 @@ returns c =
     )
 
 pub single-pair-spec : {M : Type 1} → statement M
-single-pair-spec = tie.close (tie.spec ways-of-requires single-centre-requires returns)
+single-pair-spec = tie.close (tie.spec (λ c κs. search needs) (λ c κs. search needs) returns)

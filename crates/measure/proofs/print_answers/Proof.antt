@@ -8,21 +8,6 @@ use borrow.Author.Needs.{needs}
 use Rattle.measure.proofs.print_answers.Statement.{statement}
 use Rattle.measure.proofs.print_answers.Tie as tie
 
-slice-aggregate-fresh : tie.Need-slice-aggregate-fresh
-slice-aggregate-fresh c = search needs
-
-fresh-requires : tie.Need-fresh-requires
-fresh-requires c κs = search needs
-
-slice-aggregate-run-job : tie.Need-slice-aggregate-run-job
-slice-aggregate-run-job c = search needs
-
-slice-aggregate-run-job-2 : tie.Need-slice-aggregate-run-job-2
-slice-aggregate-run-job-2 c = search needs
-
-run-job-requires : tie.Need-run-job-requires
-run-job-requires c κs = search needs
-
 -- the output ends within its buffer
 fits : (r : tie.After-run-job) → r .run-job .result .length ≤ length (r .run-job .last .1 .1 .0)
 fits r = output-fits _ _ _ (r .run-job .ensures) (r .run-job .kept .1 .1 .0)
@@ -32,9 +17,6 @@ refused-requires c κs e =
     let r = c .before .before .before .before in
     empty-refused _ _ _ (r .run-job .ensures) (search needs) e
 
-returns : tie.Need-returns
-returns c = search needs
-
 array-share-prefix-output : tie.Need-array-share-prefix-output
 array-share-prefix-output c = fits (c .before .before .before .before)
 
@@ -43,20 +25,8 @@ slice-aggregate-write-all c =
     let r = c .before .before .before .before .before in
     sym (length-take-le (r .run-job .result .length) (r .run-job .last .1 .1 .0) (fits r))
 
-write-all-requires : tie.Need-write-all-requires
-write-all-requires c κs = search needs
-
-unwritten-requires : tie.Need-unwritten-requires
-unwritten-requires c κs = search needs
-
-returns-2 : tie.Need-returns-2
-returns-2 c = search needs
-
-returns-3 : tie.Need-returns-3
-returns-3 c = search needs
-
 pub print-answers-spec : {M : Type 1} → statement M
 print-answers-spec =
     tie.close
-    (tie.spec slice-aggregate-fresh fresh-requires slice-aggregate-run-job slice-aggregate-run-job-2 run-job-requires refused-requires returns
-    array-share-prefix-output slice-aggregate-write-all write-all-requires unwritten-requires returns-2 returns-3)
+    (tie.spec (λ c. search needs) (λ c κs. search needs) (λ c. search needs) (λ c. search needs) (λ c κs. search needs) refused-requires (λ c. search needs)
+    array-share-prefix-output slice-aggregate-write-all (λ c κs. search needs) (λ c κs. search needs) (λ c. search needs) (λ c. search needs))

@@ -26,21 +26,6 @@ slice-aggregate-write-values c = simp length-take (omega arith)
 write-values-requires : tie.Need-write-values-requires
 write-values-requires c κs = (omega arith, simp length-take (omega arith))
 
-sub-write-values : tie.Need-sub-write-values
-sub-write-values c = search needs
-
-part-write-values-start : tie.Need-part-write-values-start
-part-write-values-start c = search needs
-
-part-write-values-end : tie.Need-part-write-values-end
-part-write-values-end c = search needs
-
-write-values-requires-2 : tie.Need-write-values-requires-2
-write-values-requires-2 c κs = search needs
-
-same-length : tie.Need-same-length
-same-length c = search needs
-
 returns-3 : tie.Need-returns-3
 returns-3 c =
     let w = c .before in
@@ -54,5 +39,5 @@ returns-3 c =
 pub load-spec : {M : Type 1} → statement M
 load-spec =
     tie.close
-    (tie.spec returns returns-2 slice-aggregate-write-values write-values-requires sub-write-values part-write-values-start part-write-values-end
-    write-values-requires-2 same-length returns-3)
+    (tie.spec returns returns-2 slice-aggregate-write-values write-values-requires (λ c. search needs) (λ c. search needs) (λ c. search needs)
+    (λ c κs. search needs) (λ c. search needs) returns-3)

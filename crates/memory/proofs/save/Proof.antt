@@ -7,18 +7,6 @@ use Rattle.memory.proofs.save.Tie as tie
 returns : tie.Need-returns
 returns c = let s = c .before .before in save-wrong (s .args .area .now) (c .if1 .taken) (s .args .buffer .now)
 
-read-values-requires : tie.Need-read-values-requires
-read-values-requires c κs = search needs
-
-read-values-requires-2 : tie.Need-read-values-requires-2
-read-values-requires-2 c κs = search needs
-
-save-memory-requires : tie.Need-save-memory-requires
-save-memory-requires c κs = search needs
-
-same-length : tie.Need-same-length
-same-length c = search needs
-
 returns-2 : tie.Need-returns-2
 returns-2 c =
     let w = c .before .before in
@@ -30,4 +18,4 @@ returns-2 c =
     (w .save-memory .ensures .1)
 
 pub save-spec : {M : Type 1} → statement M
-save-spec = tie.close (tie.spec returns read-values-requires read-values-requires-2 save-memory-requires same-length returns-2)
+save-spec = tie.close (tie.spec returns (λ c κs. search needs) (λ c κs. search needs) (λ c κs. search needs) (λ c. search needs) returns-2)

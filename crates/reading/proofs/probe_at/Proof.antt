@@ -54,11 +54,8 @@ number-at-requires-6 c κs = asked (known (c .before .before .before .before .be
 number-at-requires-7 : tie.Need-number-at-requires-7
 number-at-requires-7 c κs = asked (known (c .before .before .before .before .before .before)) 6 (omega arith)
 
-status-from-requires : tie.Need-status-from-requires
-status-from-requires c κs = search needs
-
 pub probe-at-spec : {M : Type 1} → statement M
 probe-at-spec =
     tie.close
-    (tie.spec number-at-requires number-at-requires-2 number-at-requires-3 number-at-requires-4 number-at-requires-5 number-at-requires-6 number-at-requires-7
-    status-from-requires returns)
+    (tie.spec number-at-requires number-at-requires-2 number-at-requires-3 number-at-requires-4 number-at-requires-5 number-at-requires-6
+    number-at-requires-7 (λ c κs. search needs) returns)

@@ -7,12 +7,6 @@ use Rattle.area.specs.Table.{valueFrom}
 use Rattle.reading.proofs.value_at.Statement.{statement}
 use Rattle.reading.proofs.value_at.Tie as tie
 
-number-at-requires : tie.Need-number-at-requires
-number-at-requires c κs = search needs
-
-value-from-requires : tie.Need-value-from-requires
-value-from-requires c κs = search needs
-
 returns : tie.Need-returns
 returns c =
     let n = c .before in
@@ -22,4 +16,4 @@ returns c =
     ∙ ap valueFrom (read-as w32 (n .number-at .result) (n .number-at .ok) ∙ (rw (toZ-ofZ (s .fits .n)) at (n .number-at .ensures)))
 
 pub value-at-spec : {M : Type 1} → statement M
-value-at-spec = tie.close (tie.spec number-at-requires value-from-requires returns)
+value-at-spec = tie.close (tie.spec (λ c κs. search needs) (λ c κs. search needs) returns)

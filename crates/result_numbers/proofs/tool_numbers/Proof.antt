@@ -139,89 +139,49 @@ add-narrow c = let s = from1 c in rw (upper c) (small-fits (raised s (s .args .a
 narrow-requires : tie.Need-narrow-requires
 narrow-requires c κs = let s = from1 c in rw (upper c) (asked (raised s (s .args .a .limits .tul)) (sized s 0 (omega arith)))
 
-array-set-from-n : tie.Need-array-set-from-n
-array-set-from-n c = search needs
-
 add-narrow-2 : tie.Need-add-narrow-2
 add-narrow-2 c = let s = from2 c in rw (lower c) (small-fits (raised s (s .args .a .limits .tll)) (sized s 1 (omega arith)))
 
 narrow-requires-2 : tie.Need-narrow-requires-2
 narrow-requires-2 c κs = let s = from2 c in rw (lower c) (asked (raised s (s .args .a .limits .tll)) (sized s 1 (omega arith)))
 
-array-set-from-n-2 : tie.Need-array-set-from-n-2
-array-set-from-n-2 c = search needs
-
 narrow-requires-3 : tie.Need-narrow-requires-3
 narrow-requires-3 c κs = let s = from3 c in asked (s .args .f .decision .correction) (sized s 2 (omega arith))
-
-array-set-from-n-3 : tie.Need-array-set-from-n-3
-array-set-from-n-3 c = search needs
 
 narrow-requires-4 : tie.Need-narrow-requires-4
 narrow-requires-4 c κs = let s = from4 c in asked (s .args .a .limits .tzl) (sized s 3 (omega arith))
 
-array-set-from-n-4 : tie.Need-array-set-from-n-4
-array-set-from-n-4 c = search needs
-
 narrow-requires-5 : tie.Need-narrow-requires-5
 narrow-requires-5 c κs = let s = from5 c in asked (s .args .a .limits .tsa) (sized s 4 (omega arith))
-
-array-set-from-n-5 : tie.Need-array-set-from-n-5
-array-set-from-n-5 c = search needs
 
 narrow-requires-6 : tie.Need-narrow-requires-6
 narrow-requires-6 c κs = let s = from6 c in asked (s .args .a .limits .tdif) (sized s 5 (omega arith))
 
-array-set-from-n-6 : tie.Need-array-set-from-n-6
-array-set-from-n-6 c = search needs
-
 narrow-requires-7 : tie.Need-narrow-requires-7
 narrow-requires-7 c κs = let s = from7 c in asked (s .args .f .ev) (sized s 6 (omega arith))
-
-array-set-from-n-7 : tie.Need-array-set-from-n-7
-array-set-from-n-7 c = search needs
 
 narrow-requires-8 : tie.Need-narrow-requires-8
 narrow-requires-8 c κs = let s = from8 c in asked (s .args .f .decision .mean) (sized s 7 (omega arith))
 
-array-set-from-n-8 : tie.Need-array-set-from-n-8
-array-set-from-n-8 c = search needs
-
 narrow-requires-9 : tie.Need-narrow-requires-9
 narrow-requires-9 c κs = let s = from9 c in asked (s .args .a .tool) (sized s 8 (omega arith))
-
-array-set-from-n-9 : tie.Need-array-set-from-n-9
-array-set-from-n-9 c = search needs
 
 narrow-requires-10 : tie.Need-narrow-requires-10
 narrow-requires-10 c κs = let s = from10 c in asked (s .args .a .k) (sized s 9 (omega arith))
 
-array-set-from-n-10 : tie.Need-array-set-from-n-10
-array-set-from-n-10 c = search needs
-
 narrow-requires-11 : tie.Need-narrow-requires-11
 narrow-requires-11 c κs = let s = from11 c in asked (s .args .a .mv) (sized s 10 (omega arith))
-
-array-set-from-n-11 : tie.Need-array-set-from-n-11
-array-set-from-n-11 c = search needs
 
 narrow-requires-12 : tie.Need-narrow-requires-12
 narrow-requires-12 c κs = let s = from12 c in asked (s .args .a .ev) (sized s 11 (omega arith))
 
-array-set-from-n-12 : tie.Need-array-set-from-n-12
-array-set-from-n-12 c = search needs
-
 narrow-requires-13 : tie.Need-narrow-requires-13
 narrow-requires-13 c κs = let s = from13 c in asked (s .args .a .tool) (sized s 12 (omega arith))
-
-array-set-from-n-13 : tie.Need-array-set-from-n-13
-array-set-from-n-13 c = search needs
 
 pub tool-numbers-spec : {M : Type 1} → statement M
 tool-numbers-spec =
     tie.close
-    (tie.spec
-    size-numbers-requires add-narrow narrow-requires array-set-from-n add-narrow-2 narrow-requires-2 array-set-from-n-2 narrow-requires-3
-    array-set-from-n-3 narrow-requires-4 array-set-from-n-4 narrow-requires-5 array-set-from-n-5 narrow-requires-6 array-set-from-n-6
-    narrow-requires-7 array-set-from-n-7 narrow-requires-8 array-set-from-n-8 narrow-requires-9 array-set-from-n-9 narrow-requires-10
-    array-set-from-n-10 narrow-requires-11 array-set-from-n-11 narrow-requires-12 array-set-from-n-12 narrow-requires-13 array-set-from-n-13 returns)
+    (tie.spec size-numbers-requires add-narrow narrow-requires (λ c. search needs) add-narrow-2 narrow-requires-2 (λ c. search needs) narrow-requires-3
+    (λ c. search needs) narrow-requires-4 (λ c. search needs) narrow-requires-5 (λ c. search needs) narrow-requires-6 (λ c. search needs) narrow-requires-7
+    (λ c. search needs) narrow-requires-8 (λ c. search needs) narrow-requires-9 (λ c. search needs) narrow-requires-10 (λ c. search needs) narrow-requires-11
+    (λ c. search needs) narrow-requires-12 (λ c. search needs) narrow-requires-13 (λ c. search needs) returns)

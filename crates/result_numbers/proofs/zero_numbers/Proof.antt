@@ -24,14 +24,8 @@ start c = c .before .before .before .before
 narrow-requires : tie.Need-narrow-requires
 narrow-requires c κs = let s = c .before .before .before in asked (s .args .a .tsa) (zero-small (s .args .a) (s .pre .1 .0) .0)
 
-array-set-from-n : tie.Need-array-set-from-n
-array-set-from-n c = search needs
-
 narrow-requires-2 : tie.Need-narrow-requires-2
 narrow-requires-2 c κs = let s = start (c .before) in asked (s .args .a .offset) (zero-small (s .args .a) (s .pre .1 .0) .1 .0)
-
-array-set-from-n-2 : tie.Need-array-set-from-n-2
-array-set-from-n-2 c = search needs
 
 returns : tie.Need-returns
 unfolding zeroFilled
@@ -47,4 +41,4 @@ returns c =
     )
 
 pub zero-numbers-spec : {M : Type 1} → statement M
-zero-numbers-spec = tie.close (tie.spec size-numbers-requires narrow-requires array-set-from-n narrow-requires-2 array-set-from-n-2 returns)
+zero-numbers-spec = tie.close (tie.spec size-numbers-requires narrow-requires (λ c. search needs) narrow-requires-2 (λ c. search needs) returns)

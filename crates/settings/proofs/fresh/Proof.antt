@@ -7,12 +7,6 @@ use Rattle.settings.proofs.fresh.Tie as tie
 returns : tie.Need-returns
 returns c = fresh-wrong (c .before .args .area .now) (c .if1 .taken)
 
-clear-requires : tie.Need-clear-requires
-clear-requires c κs = search needs
-
-same-length : tie.Need-same-length
-same-length c = search needs
-
 returns-2 : tie.Need-returns-2
 returns-2 c =
     let w = c .before in
@@ -20,4 +14,4 @@ returns-2 c =
     fresh-done (e .before .args .area .now) (e .if1 .left) (w .clear .ensures ∙ rw (e .if1 .left))
 
 pub fresh-spec : {M : Type 1} → statement M
-fresh-spec = tie.close (tie.spec returns clear-requires same-length returns-2)
+fresh-spec = tie.close (tie.spec returns (λ c κs. search needs) (λ c. search needs) returns-2)

@@ -21,9 +21,6 @@ call s = setEmpirical (s .args .ev) (s .args .value)
 returns : tie.Need-returns
 returns c = let s = c .before in call-wrong (s .args .area .now) (call s) (c .if1 .taken)
 
-empirical-refusal-requires : tie.Need-empirical-refusal-requires
-empirical-refusal-requires c κs = search needs
-
 given : (c : tie.After-empirical-refusal) → let s = c .before .before in c .empirical-refusal .result ≡ first (empiricalRules (s .args .ev) (s .args .value))
 given c = let s = c .before .before in rw (toZ-ofZ (s .fits .ev), toZ-ofZ (s .fits .value)) at (c .empirical-refusal .ensures)
 
@@ -41,9 +38,6 @@ kept c =
 cast-t8 : tie.Need-cast-t8
 cast-t8 c = search (kept c)
 
-slice-aggregate-put-record : tie.Need-slice-aggregate-put-record
-slice-aggregate-put-record c = search needs
-
 put-record-requires : tie.Need-put-record-requires
 put-record-requires c κs =
     let e = c .before .before in
@@ -52,9 +46,6 @@ put-record-requires c κs =
       omega (arith, w .if1 .left),
       (rw (toZ-ofZ (s .fits .ev)) (or-zero 20 (s .args .ev) (empirical-passed (s .args .ev) (s .args .value) (none e) .number)), refl),
     )
-
-same-length : tie.Need-same-length
-same-length c = search needs
 
 returns-3 : tie.Need-returns-3
 returns-3 c =
@@ -66,4 +57,4 @@ returns-3 c =
 pub set-empirical-spec : {M : Type 1} → statement M
 set-empirical-spec =
     tie.close
-    (tie.spec returns empirical-refusal-requires returns-2 cast-t8 slice-aggregate-put-record put-record-requires same-length returns-3)
+    (tie.spec returns (λ c κs. search needs) returns-2 cast-t8 (λ c. search needs) put-record-requires (λ c. search needs) returns-3)

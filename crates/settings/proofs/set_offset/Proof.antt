@@ -21,9 +21,6 @@ call s = setOffset (s .args .offset) (s .args .v1) (s .args .v2) (s .args .v3)
 returns : tie.Need-returns
 returns c = let s = c .before in call-wrong (s .args .area .now) (call s) (c .if1 .taken)
 
-offset-refusal-requires : tie.Need-offset-refusal-requires
-offset-refusal-requires c κs = search needs
-
 given : (c : tie.After-offset-refusal) → let s = c .before .before in
     c .offset-refusal .result ≡ first (offsetRules (s .args .offset) (s .args .v1) (s .args .v2) (s .args .v3))
 given c = let s = c .before .before in
@@ -48,9 +45,6 @@ cast-t11 c = search (kept c)
 cast-t12 : tie.Need-cast-t12
 cast-t12 c = search (kept c)
 
-slice-aggregate-put-record : tie.Need-slice-aggregate-put-record
-slice-aggregate-put-record c = search needs
-
 put-record-requires : tie.Need-put-record-requires
 put-record-requires c κs =
     let e = c .before .before in
@@ -64,9 +58,6 @@ put-record-requires c κs =
       ),
     )
 
-same-length : tie.Need-same-length
-same-length c = search needs
-
 returns-3 : tie.Need-returns-3
 returns-3 c =
     let e = c .before .before .before .before in
@@ -78,4 +69,4 @@ returns-3 c =
 pub set-offset-spec : {M : Type 1} → statement M
 set-offset-spec =
     tie.close
-    (tie.spec returns offset-refusal-requires returns-2 cast-t10 cast-t11 cast-t12 slice-aggregate-put-record put-record-requires same-length returns-3)
+    (tie.spec returns (λ c κs. search needs) returns-2 cast-t10 cast-t11 cast-t12 (λ c. search needs) put-record-requires (λ c. search needs) returns-3)

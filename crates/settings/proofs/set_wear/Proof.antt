@@ -21,9 +21,6 @@ call s = setWear (s .args .tool) (s .args .radius) (s .args .length)
 returns : tie.Need-returns
 returns c = let s = c .before in call-wrong (s .args .area .now) (call s) (c .if1 .taken)
 
-wear-refusal-requires : tie.Need-wear-refusal-requires
-wear-refusal-requires c κs = search needs
-
 given : (c : tie.After-wear-refusal) → let s = c .before .before in
     c .wear-refusal .result ≡ first (wearRules (s .args .tool) (s .args .radius) (s .args .length))
 given c = let s = c .before .before in rw (toZ-ofZ (s .fits .tool), toZ-ofZ (s .fits .radius), toZ-ofZ (s .fits .length)) at (c .wear-refusal .ensures)
@@ -43,9 +40,6 @@ cast-t9 c = search (kept c)
 cast-t10 : tie.Need-cast-t10
 cast-t10 c = search (kept c)
 
-slice-aggregate-put-record : tie.Need-slice-aggregate-put-record
-slice-aggregate-put-record c = search needs
-
 put-record-requires : tie.Need-put-record-requires
 put-record-requires c κs =
     let e = c .before .before in
@@ -54,9 +48,6 @@ put-record-requires c κs =
       omega (arith, w .if1 .left),
       (rw (toZ-ofZ (s .fits .tool)) (or-zero 32 (s .args .tool) (wears-passed (s .args .tool) (s .args .radius) (s .args .length) (none e) .number)), refl),
     )
-
-same-length : tie.Need-same-length
-same-length c = search needs
 
 returns-3 : tie.Need-returns-3
 returns-3 c =
@@ -69,4 +60,4 @@ returns-3 c =
 pub set-wear-spec : {M : Type 1} → statement M
 set-wear-spec =
     tie.close
-    (tie.spec returns wear-refusal-requires returns-2 cast-t9 cast-t10 slice-aggregate-put-record put-record-requires same-length returns-3)
+    (tie.spec returns (λ c κs. search needs) returns-2 cast-t9 cast-t10 (λ c. search needs) put-record-requires (λ c. search needs) returns-3)

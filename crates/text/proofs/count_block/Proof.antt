@@ -16,20 +16,8 @@ Inv-loop s n₀ i₀ n i = (i ≤ length s) × (n ≤ i) × (length (lines s) �
 abbrev μ-loop : tie.MeasureT-loop
 μ-loop s n₀ i₀ n i = length s - i
 
-loop-holds : tie.Need-loop-holds Inv-loop μ-loop
-loop-holds c = search needs
-
-shared-slice-read-if1 : tie.Need-shared-slice-read-if1 Inv-loop μ-loop
-shared-slice-read-if1 c = search needs
-
-add-n : tie.Need-add-n Inv-loop μ-loop
-add-n c = search needs
-
 add-i : tie.Need-add-i Inv-loop μ-loop
 add-i c = ⊎-elim (λ w. omega arith) (λ w. omega arith) (c .if1 .came)
-
-loop-less : tie.Need-loop-less Inv-loop μ-loop
-loop-less c = search needs
 
 loop-again : tie.Need-loop-again Inv-loop μ-loop
 loop-again c =
@@ -46,4 +34,6 @@ returns c =
     omega arith
 
 pub count-block-spec : {M : Type 1} → statement M
-count-block-spec = tie.close (tie.spec Inv-loop μ-loop loop-holds shared-slice-read-if1 add-n add-i loop-less loop-again returns)
+count-block-spec =
+    tie.close
+    (tie.spec Inv-loop μ-loop (λ c. search needs) (λ c. search needs) (λ c. search needs) add-i (λ c. search needs) loop-again returns)

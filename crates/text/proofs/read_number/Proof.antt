@@ -51,28 +51,16 @@ negative c = sub (lit (pos 0)) (bound (pos (c .before .before .before .value .gi
 runs : (c : tie.Else3) → Runs (negative c)
 runs c = run (negative c) tt (search)
 
-shared-slice-read-if1 : tie.Need-shared-slice-read-if1
-shared-slice-read-if1 c = search needs
-
 sub-read-whole : tie.Need-sub-read-whole
 sub-read-whole c = omega (arith, behind (c .before))
 
 part-read-whole-start : tie.Need-part-read-whole-start
 part-read-whole-start c = omega (arith, behind (c .before))
 
-part-read-whole-end : tie.Need-part-read-whole-end
-part-read-whole-end c = search needs
-
 read-whole-requires : tie.Need-read-whole-requires
 read-whole-requires c κs =
     let j = c .before .before in
     rw (part-end (text j) (j .if1 .sign)) (behind j .1)
-
-enum-known-value : tie.Need-enum-known-value
-enum-known-value c = search needs
-
-cast-t15 : tie.Need-cast-t15
-cast-t15 c = search needs
 
 returns : tie.Need-returns
 returns c =
@@ -86,9 +74,6 @@ returns-2 c =
     let j = turn n in
     nought-read (text j) (j .if1 .sign) (some j) _ _ (signed j) (c .before .if2 .left) (c .if3 .taken) (found n)
 
-cast-t16 : tie.Need-cast-t16
-cast-t16 c = search needs
-
 sub-t17 : tie.Need-sub-t17
 sub-t17 c = search (runs c .asks)
 
@@ -97,9 +82,6 @@ add-t18 c =
     let n = c .before .before .before in
     let j = turn n in
     omega (arith, found n .0, field-within (drop (j .if1 .sign) (text j)), behind j, length-drop (j .if1 .sign) (text j))
-
-enum-told : tie.Need-enum-told
-enum-told c = search needs
 
 returns-3 : tie.Need-returns-3
 returns-3 c =
@@ -118,5 +100,5 @@ returns-4 c =
 pub read-number-spec : {M : Type 1} → statement M
 read-number-spec =
     tie.close
-    (tie.spec shared-slice-read-if1 sub-read-whole part-read-whole-start part-read-whole-end read-whole-requires enum-known-value cast-t15 returns returns-2
-    cast-t16 sub-t17 add-t18 enum-told returns-3 returns-4)
+    (tie.spec (λ c. search needs) sub-read-whole part-read-whole-start (λ c. search needs) read-whole-requires (λ c. search needs) (λ c. search needs)
+    returns returns-2 (λ c. search needs) sub-t17 add-t18 (λ c. search needs) returns-3 returns-4)

@@ -5,21 +5,6 @@ use Rattle.package.specs.declared.found.Branch.the-variants.{One, Two, Three, F
 use Rattle.tolerance.proofs.branch_number.Statement.{statement}
 use Rattle.tolerance.proofs.branch_number.Tie as tie
 
-enum-told : tie.Need-enum-told
-enum-told c = search needs
-
-enum-told-2 : tie.Need-enum-told-2
-enum-told-2 c = search needs
-
-enum-told-3 : tie.Need-enum-told-3
-enum-told-3 c = search needs
-
-enum-told-4 : tie.Need-enum-told-4
-enum-told-4 c = search needs
-
-enum-told-5 : tie.Need-enum-told-5
-enum-told-5 c = search needs
-
 returns : tie.Need-returns
 returns c = let e : c .before .before .args .b ≡ One = search needs in rw e refl
 
@@ -36,4 +21,7 @@ returns-5 : tie.Need-returns-5
 returns-5 c = let e : c .before .before .args .b ≡ Five = search needs in rw e refl
 
 pub branch-number-spec : {M : Type 1} → statement M
-branch-number-spec = tie.close (tie.spec enum-told enum-told-2 enum-told-3 enum-told-4 enum-told-5 returns returns-2 returns-3 returns-4 returns-5)
+branch-number-spec =
+    tie.close
+    (tie.spec (λ c. search needs) (λ c. search needs) (λ c. search needs) (λ c. search needs) (λ c. search needs) returns returns-2 returns-3 returns-4
+    returns-5)

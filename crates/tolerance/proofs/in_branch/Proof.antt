@@ -12,12 +12,6 @@ use Rattle.rules.specs.Tool.{branchNumber}
 use Rattle.tolerance.proofs.in_branch.Statement.{statement}
 use Rattle.tolerance.proofs.in_branch.Tie as tie
 
-branch-number-requires : tie.Need-branch-number-requires
-branch-number-requires c κs = search needs
-
-cast-place : tie.Need-cast-place
-cast-place c = search needs
-
 one-to-five : (b : Branch) → (1 ≤ branchNumber b) × (branchNumber b ≤ 5)
 one-to-five One = omega arith
 one-to-five Two = omega arith
@@ -27,9 +21,6 @@ one-to-five Five = omega arith
 
 sub-place : tie.Need-sub-place
 sub-place c = omega (arith, one-to-five (c .before .args .b))
-
-mul-result : tie.Need-mul-result
-mul-result c = search needs
 
 array-copy-out-result : tie.Need-array-copy-out-result
 array-copy-out-result c = omega (arith, one-to-five (c .before .args .b))
@@ -41,4 +32,4 @@ returns c =
     read (getD vs (n .result - 1) (pos 0)) (c .result .given) ∙ ap (λ (i : ℕ). getD vs (i - 1) (pos 0)) (n .ensures)
 
 pub in-branch-spec : {M : Type 1} → statement M
-in-branch-spec = tie.close (tie.spec branch-number-requires cast-place sub-place mul-result array-copy-out-result returns)
+in-branch-spec = tie.close (tie.spec (λ c κs. search needs) (λ c. search needs) sub-place (λ c. search needs) array-copy-out-result returns)

@@ -15,16 +15,10 @@ use Rattle.tool_measuring.proofs.tool_line.Tie as tie
 abbrev call : tie.Start → Call
 call s = measureTool (s .args .a) lent 0
 
-not-answered-requires : tie.Need-not-answered-requires
-not-answered-requires c κs = search needs
-
 returns : tie.Need-returns
 returns c =
     let s = c .before .before in
     rw (c .not-answered .ensures .0, c .not-answered .ensures .1) (call-wrong (s .args .area .now) (call s) (c .before .if1 .taken))
-
-kind-of-requires : tie.Need-kind-of-requires
-kind-of-requires c κs = search needs
 
 abbrev whole : tie.After-kind-of → tie.Else1
 whole c = c .before .before .before .before
@@ -46,20 +40,8 @@ module _ (c : tie.After-area) where
       → ToolEvaluated (start .args .a) (start .args .area .now) (c .before .evaluate-tool .last .0) o
   outcome-is e = subst (ToolEvaluated (start .args .a) (start .args .area .now) (c .before .evaluate-tool .last .0)) e (c .before .evaluate-tool .ensures)
 
-enum-known-outcome : tie.Need-enum-known-outcome
-enum-known-outcome c = search needs
-
-not-answered-requires-2 : tie.Need-not-answered-requires-2
-not-answered-requires-2 c κs = search needs
-
-enum-known-outcome-2 : tie.Need-enum-known-outcome-2
-enum-known-outcome-2 c = search needs
-
 tool-evaluation-requires : tie.Need-tool-evaluation-requires
 tool-evaluation-requires c κs = let o = c .before in outcome-is (o .before .before) (o .outcome2 .given .1) .1 .1
-
-same-length : tie.Need-same-length
-same-length c = search needs
 
 returns-2 : tie.Need-returns-2
 returns-2 c =
@@ -69,9 +51,6 @@ returns-2 c =
     let h = outcome-is m (o .outcome .given .1) in
     rw (c .not-answered2 .ensures .0, c .not-answered2 .ensures .1, kept (h .0) (h .1))
     (call-refused (s .args .area .now) (call s) (at-whole m .if1 .left) (h .0 .refusal) (h .1))
-
-same-length-2 : tie.Need-same-length-2
-same-length-2 c = search needs
 
 returns-3 : tie.Need-returns-3
 returns-3 c =
@@ -85,5 +64,5 @@ returns-3 c =
 pub tool-line-spec : {M : Type 1} → statement M
 tool-line-spec =
     tie.close
-    (tie.spec not-answered-requires returns kind-of-requires evaluate-tool-requires enum-known-outcome not-answered-requires-2 enum-known-outcome-2
-    tool-evaluation-requires same-length returns-2 same-length-2 returns-3)
+    (tie.spec (λ c κs. search needs) returns (λ c κs. search needs) evaluate-tool-requires (λ c. search needs) (λ c κs. search needs) (λ c. search needs)
+    tool-evaluation-requires (λ c. search needs) returns-2 (λ c. search needs) returns-3)

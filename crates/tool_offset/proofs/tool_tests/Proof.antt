@@ -16,15 +16,6 @@ magnitude-requires c κs =
     let s = c .before .before .before in
     rw (read (s .args .f .deviation) (c .struct-told .given .1 .1 .1 .0 .1)) (omega (arith, s .pre .1 .deviation))
 
-widths-ok-requires : tie.Need-widths-ok-requires
-widths-ok-requires c κs = search needs
-
-sub-in-range : tie.Need-sub-in-range
-sub-in-range c = search needs
-
-in-range-requires : tie.Need-in-range-requires
-in-range-requires c κs = search needs
-
 returns : tie.Need-returns
 returns c =
     let t4 = c .before in
@@ -44,4 +35,4 @@ returns c =
     λ i. record { calibrated = f .calibrated; pairs = pairs i; tsa = leZ (far i) (tsa i); tdif = leZ (far i) (tdif i); range = range i }
 
 pub tool-tests-spec : {M : Type 1} → statement M
-tool-tests-spec = tie.close (tie.spec magnitude-requires widths-ok-requires sub-in-range in-range-requires returns)
+tool-tests-spec = tie.close (tie.spec magnitude-requires (λ c κs. search needs) (λ c. search needs) (λ c κs. search needs) returns)

@@ -69,12 +69,6 @@ tool-found-requires c κs = let e = c .before .before in (start e .pre .1, passe
 tool-tests-requires : tie.Need-tool-tests-requires
 tool-tests-requires c κs = (start (c .before .before .before) .pre .1, c .tool-found .ensures .1)
 
-records-refusal-requires : tie.Need-records-refusal-requires
-records-refusal-requires c κs = search needs
-
-same-length : tie.Need-same-length
-same-length c = search needs
-
 module _ (c : tie.After-records-refusal) where
   abbrev at-found : tie.After-tool-found
   at-found = c .before .before
@@ -117,9 +111,6 @@ put-tool-requires c κs =
       ),
     )
 
-same-length-2 : tie.Need-same-length-2
-same-length-2 c = search needs
-
 returns-3 : tie.Need-returns-3
 returns-3 c =
     let p = c .before in
@@ -143,5 +134,5 @@ returns-3 c =
 pub evaluate-tool-spec : {M : Type 1} → statement M
 evaluate-tool-spec =
     tie.close
-    (tie.spec tool-refusal-requires returns tool-records-requires tool-found-requires tool-tests-requires records-refusal-requires same-length returns-2
-    wears-left-requires put-tool-requires same-length-2 returns-3)
+    (tie.spec tool-refusal-requires returns tool-records-requires tool-found-requires tool-tests-requires (λ c κs. search needs) (λ c. search needs)
+    returns-2 wears-left-requires put-tool-requires (λ c. search needs) returns-3)

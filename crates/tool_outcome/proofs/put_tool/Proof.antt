@@ -20,16 +20,10 @@ value s = casts w32 (minus 32768) (pos 32767) (s .fits .mean) tt tt (s .pre .1 .
 cast-t7 : tie.Need-cast-t7
 cast-t7 c = value c .fits
 
-slice-aggregate-put-record : tie.Need-slice-aggregate-put-record
-slice-aggregate-put-record c = search needs
-
 put-record-requires : tie.Need-put-record-requires
 put-record-requires c κs =
     let s = c .before .before .before in
     (omega (arith, s .pre .0), (rw (read (s .args .a .mv) (c .struct-told .given .1 .1 .1 .1 .0 .1)) (s .pre .1 .0 .mv), refl))
-
-slice-aggregate-put-record-2 : tie.Need-slice-aggregate-put-record-2
-slice-aggregate-put-record-2 c = search needs
 
 put-record-requires-2 : tie.Need-put-record-requires-2
 put-record-requires-2 c κs =
@@ -39,9 +33,6 @@ put-record-requires-2 c κs =
       omega (arith, s .pre .0, v .put-record .kept .0),
       (rw (read (s .args .a .tool) (c .struct-told3 .given .1 .1 .0 .1)) (or-zero 32 (s .args .a .tool) n), refl),
     )
-
-same-length : tie.Need-same-length
-same-length c = search needs
 
 returns : tie.Need-returns
 returns c =
@@ -63,6 +54,4 @@ returns c =
     wear ∙ ap (λ (zs : List ℤ). renewed zs (write tools (a .tool) x)) mean
 
 pub put-tool-spec : {M : Type 1} → statement M
-put-tool-spec =
-    tie.close
-    (tie.spec cast-t7 slice-aggregate-put-record put-record-requires slice-aggregate-put-record-2 put-record-requires-2 same-length returns)
+put-tool-spec = tie.close (tie.spec cast-t7 (λ c. search needs) put-record-requires (λ c. search needs) put-record-requires-2 (λ c. search needs) returns)

@@ -12,12 +12,6 @@ use Rattle.rules.specs.ProbeLaws.{sign-size}
 use Rattle.wears.proofs.factor_of.Statement.{statement}
 use Rattle.wears.proofs.factor_of.Tie as tie
 
-enum-told : tie.Need-enum-told
-enum-told c = search needs
-
-sign-of-requires : tie.Need-sign-of-requires
-sign-of-requires c κs = search needs
-
 sign-is : (c : tie.After-sign-of) → c .sign-of .result ≡ sign (c .before .before .before .args .direction)
 sign-is c = rw (toZ-ofZ (c .before .before .before .fits .direction)) at (c .sign-of .ensures)
 
@@ -37,18 +31,6 @@ returns c = rw (c .before .enum-told .given .1) (runs c .value ∙ ap (λ (z : �
 mul-result : tie.Need-mul-result
 mul-result c = search (runs c .asks)
 
-enum-told-2 : tie.Need-enum-told-2
-enum-told-2 c = search needs
-
-side-of-requires : tie.Need-side-of-requires
-side-of-requires c κs = search needs
-
-enum-told-3 : tie.Need-enum-told-3
-enum-told-3 c = search needs
-
-side-of-requires-2 : tie.Need-side-of-requires-2
-side-of-requires-2 c κs = search needs
-
 returns-2 : tie.Need-returns-2
 returns-2 c = rw (c .before .enum-told2 .given .1) (read (c .side-of .result) (c .side-of .ok) ∙ c .side-of .ensures)
 
@@ -58,4 +40,5 @@ returns-3 c = rw (c .before .enum-told3 .given .1) (read (c .side-of2 .result) (
 pub factor-of-spec : {M : Type 1} → statement M
 factor-of-spec =
     tie.close
-    (tie.spec enum-told sign-of-requires mul-result enum-told-2 side-of-requires enum-told-3 side-of-requires-2 returns returns-2 returns-3)
+    (tie.spec (λ c. search needs) (λ c κs. search needs) mul-result (λ c. search needs) (λ c κs. search needs) (λ c. search needs) (λ c κs. search needs)
+    returns returns-2 returns-3)

@@ -20,15 +20,6 @@ use Rattle.rules.specs.Tool.{factor, wearOn}
 use Rattle.wears.proofs.wear_left.Statement.{statement}
 use Rattle.wears.proofs.wear_left.Tie as tie
 
-on-length-requires : tie.Need-on-length-requires
-on-length-requires c κs = search needs
-
-wear-on-requires : tie.Need-wear-on-requires
-wear-on-requires c κs = search needs
-
-factor-of-requires : tie.Need-factor-of-requires
-factor-of-requires c κs = search needs
-
 -- ---- the factor, and its size
 side-size : (b : Bool) → natAbs (cond b (pos 1) (minus 1)) ≤ 2
 side-size true = omega arith
@@ -79,4 +70,4 @@ returns c =
     (factor-is c)
 
 pub wear-left-spec : {M : Type 1} → statement M
-wear-left-spec = tie.close (tie.spec on-length-requires wear-on-requires factor-of-requires mul-result add-result returns)
+wear-left-spec = tie.close (tie.spec (λ c κs. search needs) (λ c κs. search needs) (λ c κs. search needs) mul-result add-result returns)

@@ -9,9 +9,6 @@ use Rattle.rules.specs.Tool.{onLength}
 use Rattle.wears.proofs.wears_left.Statement.{statement}
 use Rattle.wears.proofs.wears_left.Tie as tie
 
-on-length-requires : tie.Need-on-length-requires
-on-length-requires c κs = search needs
-
 module _ (c : tie.After-on-length) where
   abbrev start : tie.Start
   start = c .before .before
@@ -35,4 +32,4 @@ returns-2 : tie.Need-returns-2
 returns-2 c = let e = c .before in rw (value (e .before) .value, sym (length-is (e .before)) ∙ e .if1 .left) (search needs)
 
 pub wears-left-spec : {M : Type 1} → statement M
-wears-left-spec = tie.close (tie.spec on-length-requires cast-t6 returns cast-t7 returns-2)
+wears-left-spec = tie.close (tie.spec (λ c κs. search needs) cast-t6 returns cast-t7 returns-2)

@@ -27,17 +27,8 @@ use Rattle.zero_measuring.proofs.measure_zero.Tie as tie
 abbrev way : (s : tie.Start) → Way (s .args .area .now) (s .args .results .now) (s .args .place)
 way s = zeroWay (s .args .area .now) (s .args .results .now) (s .args .place) (s .args .a)
 
-not-decided-requires : tie.Need-not-decided-requires
-not-decided-requires c κs = search needs
-
 returns : tie.Need-returns
 returns c = rw (c .not-decided .ensures) (wrong-area (way (c .before .before)) (c .before .if1 .taken))
-
-has-room-requires : tie.Need-has-room-requires
-has-room-requires c κs = search needs
-
-not-decided-requires-2 : tie.Need-not-decided-requires-2
-not-decided-requires-2 c κs = search needs
 
 returns-2 : tie.Need-returns-2
 returns-2 c =
@@ -47,9 +38,6 @@ returns-2 c =
     rw (c .not-decided2 .ensures) (no-room (way (e .before)) (e .if1 .left) (failed (h .has-room .ensures) (t .if2 .taken)))
 
 -- ---- where there is room
-zero-kind-of-requires : tie.Need-zero-kind-of-requires
-zero-kind-of-requires c κs = search needs
-
 module _ (c : tie.After-zero-kind-of) where
   abbrev at-room : tie.Else2
   at-room = c .before .before .before
@@ -111,9 +99,6 @@ returns-4 c =
     done (way s) (at-whole k .if1 .left) (room k) (h .0) (c .zero-evaluation .ensures ∙ ap zeroEvaluation (h .1 .0))
     (w .write-results2 .ensures ∙ ap (written (s .args .results .now) (s .args .place)) numbers)
 
-enum-known-outcome : tie.Need-enum-known-outcome
-enum-known-outcome c = search needs
-
 small : (p : Package) (a : ZeroMeasurement) → first (zeroRules (zeroRead p a) a) ≤ 9
 unfolding refusal
 small p a = refusal-small p (measureZero a lent 0)
@@ -127,12 +112,6 @@ refused-numbers-requires c κs =
 
 write-results-requires : tie.Need-write-results-requires
 write-results-requires c κs = has-place (kind (c .before .before .before .before .before))
-
-not-decided-requires-3 : tie.Need-not-decided-requires-3
-not-decided-requires-3 c κs = search needs
-
-enum-known-outcome-2 : tie.Need-enum-known-outcome-2
-enum-known-outcome-2 c = search needs
 
 zero-numbers-requires : tie.Need-zero-numbers-requires
 zero-numbers-requires c κs =
@@ -150,21 +129,9 @@ zero-evaluation-requires c κs =
     let o = c .before .before .before .before .before in
     outcome-is (o .before .before) (o .outcome2 .given .1) .1 .1
 
-same-length : tie.Need-same-length
-same-length c = search needs
-
-same-length-2 : tie.Need-same-length-2
-same-length-2 c = search needs
-
-same-length-3 : tie.Need-same-length-3
-same-length-3 c = search needs
-
-same-length-4 : tie.Need-same-length-4
-same-length-4 c = search needs
-
 pub measure-zero-spec : {M : Type 1} → statement M
 measure-zero-spec =
     tie.close
-    (tie.spec not-decided-requires returns has-room-requires not-decided-requires-2 returns-2 zero-kind-of-requires evaluate-zero-requires enum-known-outcome
-    refused-numbers-requires write-results-requires not-decided-requires-3 enum-known-outcome-2 zero-numbers-requires write-results-requires-2
-    zero-evaluation-requires same-length same-length-2 returns-3 same-length-3 same-length-4 returns-4)
+    (tie.spec (λ c κs. search needs) returns (λ c κs. search needs) (λ c κs. search needs) returns-2 (λ c κs. search needs) evaluate-zero-requires
+    (λ c. search needs) refused-numbers-requires write-results-requires (λ c κs. search needs) (λ c. search needs) zero-numbers-requires
+    write-results-requires-2 zero-evaluation-requires (λ c. search needs) (λ c. search needs) returns-3 (λ c. search needs) (λ c. search needs) returns-4)

@@ -15,16 +15,10 @@ use Rattle.zero_measuring.proofs.zero_line.Tie as tie
 abbrev call : tie.Start → Call
 call s = measureZero (s .args .a) lent 0
 
-not-answered-requires : tie.Need-not-answered-requires
-not-answered-requires c κs = search needs
-
 returns : tie.Need-returns
 returns c =
     let s = c .before .before in
     rw (c .not-answered .ensures .0, c .not-answered .ensures .1) (call-wrong (s .args .area .now) (call s) (c .before .if1 .taken))
-
-zero-kind-of-requires : tie.Need-zero-kind-of-requires
-zero-kind-of-requires c κs = search needs
 
 abbrev whole : tie.After-zero-kind-of → tie.Else1
 whole c = c .before .before .before .before
@@ -46,20 +40,8 @@ module _ (c : tie.After-area) where
       → ZeroEvaluated (start .args .a) (start .args .area .now) (c .before .evaluate-zero .last .0) o
   outcome-is e = subst (ZeroEvaluated (start .args .a) (start .args .area .now) (c .before .evaluate-zero .last .0)) e (c .before .evaluate-zero .ensures)
 
-enum-known-outcome : tie.Need-enum-known-outcome
-enum-known-outcome c = search needs
-
-not-answered-requires-2 : tie.Need-not-answered-requires-2
-not-answered-requires-2 c κs = search needs
-
-enum-known-outcome-2 : tie.Need-enum-known-outcome-2
-enum-known-outcome-2 c = search needs
-
 zero-evaluation-requires : tie.Need-zero-evaluation-requires
 zero-evaluation-requires c κs = let o = c .before in outcome-is (o .before .before) (o .outcome2 .given .1) .1 .1
-
-same-length : tie.Need-same-length
-same-length c = search needs
 
 returns-2 : tie.Need-returns-2
 returns-2 c =
@@ -69,9 +51,6 @@ returns-2 c =
     let h = outcome-is m (o .outcome .given .1) in
     rw (c .not-answered2 .ensures .0, c .not-answered2 .ensures .1, kept (h .0) (h .1))
     (call-refused (s .args .area .now) (call s) (at-whole m .if1 .left) (h .0 .refusal) (h .1))
-
-same-length-2 : tie.Need-same-length-2
-same-length-2 c = search needs
 
 returns-3 : tie.Need-returns-3
 returns-3 c =
@@ -85,5 +64,5 @@ returns-3 c =
 pub zero-line-spec : {M : Type 1} → statement M
 zero-line-spec =
     tie.close
-    (tie.spec not-answered-requires returns zero-kind-of-requires evaluate-zero-requires enum-known-outcome not-answered-requires-2 enum-known-outcome-2
-    zero-evaluation-requires same-length returns-2 same-length-2 returns-3)
+    (tie.spec (λ c κs. search needs) returns (λ c κs. search needs) evaluate-zero-requires (λ c. search needs) (λ c κs. search needs) (λ c. search needs)
+    zero-evaluation-requires (λ c. search needs) returns-2 (λ c. search needs) returns-3)

@@ -76,12 +76,6 @@ module _ (c : tie.After-sizes-of) where
 zero-tests-requires : tie.Need-zero-tests-requires
 zero-tests-requires c κs = found c
 
-records-refusal-requires : tie.Need-records-refusal-requires
-records-refusal-requires c κs = search needs
-
-same-length : tie.Need-same-length
-same-length c = search needs
-
 module _ (c : tie.After-records-refusal) where
   abbrev at-sizes : tie.After-sizes-of
   at-sizes = c .before .before
@@ -114,9 +108,6 @@ put-zero-requires c κs =
     let l = at-passed (at-sizes (c .before .before .before)) in
     (start l .pre .0, passed l .numbers)
 
-same-length-2 : tie.Need-same-length-2
-same-length-2 c = search needs
-
 returns-3 : tie.Need-returns-3
 returns-3 c =
     let p = c .before in
@@ -139,5 +130,5 @@ returns-3 c =
 pub evaluate-zero-spec : {M : Type 1} → statement M
 evaluate-zero-spec =
     tie.close
-    (tie.spec zero-refusal-requires returns zero-records-requires sizes-of-requires zero-tests-requires records-refusal-requires same-length returns-2
-    offset-left-requires put-zero-requires same-length-2 returns-3)
+    (tie.spec zero-refusal-requires returns zero-records-requires sizes-of-requires zero-tests-requires (λ c κs. search needs) (λ c. search needs) returns-2
+    offset-left-requires put-zero-requires (λ c. search needs) returns-3)

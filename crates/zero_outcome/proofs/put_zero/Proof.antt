@@ -6,18 +6,12 @@ use Rattle.signed.specs.RangeLaws.{or-zero}
 use Rattle.zero_outcome.proofs.put_zero.Statement.{statement}
 use Rattle.zero_outcome.proofs.put_zero.Tie as tie
 
-slice-aggregate-put-record : tie.Need-slice-aggregate-put-record
-slice-aggregate-put-record c = search needs
-
 put-record-requires : tie.Need-put-record-requires
 put-record-requires c κs =
     let s = c .before .before .before .before in (
       omega (arith, s .pre .0),
       (rw (read (s .args .a .offset) (c .struct-told .given .1 .1 .0 .1)) (or-zero 4 (s .args .a .offset) (s .pre .1 .offset)), search needs),
     )
-
-same-length : tie.Need-same-length
-same-length c = search needs
 
 returns : tie.Need-returns
 returns c =
@@ -26,4 +20,4 @@ returns c =
     rw (read (s .args .a .offset) (told .struct-told .given .1 .1 .0 .1)) at (c .before .put-record .ensures)
 
 pub put-zero-spec : {M : Type 1} → statement M
-put-zero-spec = tie.close (tie.spec slice-aggregate-put-record put-record-requires same-length returns)
+put-zero-spec = tie.close (tie.spec (λ c. search needs) put-record-requires (λ c. search needs) returns)

@@ -6,23 +6,11 @@ use borrow.Author.Needs.{needs}
 use Rattle.measure.proofs.report.refused.Statement.{statement}
 use Rattle.measure.proofs.report.refused.Tie as tie
 
-slice-aggregate-say : tie.Need-slice-aggregate-say
-slice-aggregate-say c = search needs
-
-say-requires : tie.Need-say-requires
-say-requires c κs = search needs
-
-returns : tie.Need-returns
-returns c = search needs
-
 wrong-job-requires : tie.Need-wrong-job-requires
 wrong-job-requires c κs =
     let s = c .before .before .before in
     let some : length (s .args .job .now) ≡ 0 → ⊥ = λ e. c .if1 .left (s .pre e) in
     omega (arith, some)
 
-returns-2 : tie.Need-returns-2
-returns-2 c = search needs
-
 pub refused-spec : {M : Type 1} → statement M
-refused-spec = tie.close (tie.spec slice-aggregate-say say-requires returns wrong-job-requires returns-2)
+refused-spec = tie.close (tie.spec (λ c. search needs) (λ c κs. search needs) (λ c. search needs) wrong-job-requires (λ c. search needs))

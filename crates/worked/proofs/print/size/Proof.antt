@@ -34,16 +34,10 @@ cast-result c =
     let below : c .before .args .v <ℤ pos 0 = lt-taken (rw (widened (c .before) .value) at (c .if1 .taken)) in
     rw (runs (c .before) .value ∙ below-zero _ below) (tt, record { fits = omega (arith, abs-of (c .before .fits .v)) })
 
-returns : tie.Need-returns
-returns c = search needs
-
 cast-result-2 : tie.Need-cast-result-2
 cast-result-2 c =
     let up : pos 0 ≤ℤ c .before .args .v = lt-left (rw (widened (c .before) .value) at (c .if1 .left)) in
     rw (widened (c .before) .value) (yes-nonNeg up, record { fits = omega (arith, abs-of (c .before .fits .v)) })
 
-returns-2 : tie.Need-returns-2
-returns-2 c = search needs
-
 pub size-spec : {M : Type 1} → statement M
-size-spec = tie.close (tie.spec cast-w sub-result cast-result returns cast-result-2 returns-2)
+size-spec = tie.close (tie.spec cast-w sub-result cast-result (λ c. search needs) cast-result-2 (λ c. search needs))

@@ -16,8 +16,5 @@ mul-result c = omega (arith, inside (c .before))
 add-result : tie.Need-add-result
 add-result c = omega (arith, inside (c .before .before))
 
-returns : tie.Need-returns
-returns c = search needs
-
 pub start-spec : {M : Type 1} → statement M
-start-spec = tie.close (tie.spec mul-result add-result returns)
+start-spec = tie.close (tie.spec mul-result add-result (λ c. search needs))

@@ -13,25 +13,10 @@ use Rattle.worked.proofs.read.number.Tie as tie
 negative-fits : (n : ℕ) → n < 2 ^ 63 → SFits w64 (pos 0 -ℤ pos n)
 negative-fits n h = fits-abs w64 (pos 0 -ℤ pos n) (omega (arith, abs-sub (pos 0) (pos n)))
 
-returns : tie.Need-returns
-returns c = search needs
-
-cast-result : tie.Need-cast-result
-cast-result c = search needs
-
 sub-result : tie.Need-sub-result
 sub-result c =
     let n = c .before .before .args .size in
     rw (toZ-pos w64 {n = n} (omega arith)) (negative-fits n (omega arith))
 
-returns-2 : tie.Need-returns-2
-returns-2 c = search needs
-
-cast-result-2 : tie.Need-cast-result-2
-cast-result-2 c = search needs
-
-returns-3 : tie.Need-returns-3
-returns-3 c = search needs
-
 pub number-spec : {M : Type 1} → statement M
-number-spec = tie.close (tie.spec returns cast-result sub-result returns-2 cast-result-2 returns-3)
+number-spec = tie.close (tie.spec (λ c. search needs) (λ c. search needs) sub-result (λ c. search needs) (λ c. search needs) (λ c. search needs))

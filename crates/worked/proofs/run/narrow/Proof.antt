@@ -10,9 +10,6 @@ use Rattle.signed.specs.CodeLaws.{casts}
 use Rattle.worked.proofs.run.narrow.Statement.{statement}
 use Rattle.worked.proofs.run.narrow.Tie as tie
 
-in-range-requires : tie.Need-in-range-requires
-in-range-requires c κs = search needs
-
 cast-result : tie.Need-cast-result
 cast-result c =
     let s = c .before .before in
@@ -20,11 +17,5 @@ cast-result c =
     ∙ c .if1 .taken in
     casts w32 (negsuc 2147483647) (pos 2147483647) (s .fits .v) tt tt inside .fits
 
-returns : tie.Need-returns
-returns c = search needs
-
-returns-2 : tie.Need-returns-2
-returns-2 c = search needs
-
 pub narrow-spec : {M : Type 1} → statement M
-narrow-spec = tie.close (tie.spec in-range-requires cast-result returns returns-2)
+narrow-spec = tie.close (tie.spec (λ c κs. search needs) cast-result (λ c. search needs) (λ c. search needs))
