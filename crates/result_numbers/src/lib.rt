@@ -4,18 +4,21 @@ use package::arguments::ZeroMeasurement;
 use package::found::Found;
 use package::found::Kind;
 use package::found::Sizes;
+use results::has_room;
 use results::narrow;
 use results::size_numbers;
+use results::write_results;
 ghost use mathlib.Core.Path.{_≡_};
 ghost use Rattle.rules.specs.Tool.{toolKindOf};
 ghost use Rattle.rules.specs.Zero.{zeroKindOf};
 ghost use Rattle.rules.specs.Passed.{ToolArgumentsPassed, ZeroArgumentsPassed};
 ghost use Rattle.rules.specs.Results.{toolFilled, zeroFilled};
+ghost use Rattle.rules.specs.Answers.{arrayAfter};
 ghost use Rattle.sizes.specs.SizeLaws.{SizesSmall};
 ghost use Rattle.evaluation.specs.FoundSmall.{FoundSmall};
 
-// Those of a measurement with tool offset; k is its kind. No call of a user.
-pub fn tool_numbers(k: Kind, a: ToolMeasurement, f: Found) -> [i32; 42]
+// Those of a measurement with tool offset; k is its kind.
+fn tool_numbers(k: Kind, a: ToolMeasurement, f: Found) -> [i32; 42]
     requires { ⌜ k ≡ toolKindOf a ⌝ }
     requires { ⌜ ToolArgumentsPassed a × FoundSmall f ⌝ }
     ensures { λ r. ⌜ r ≡ toolFilled a f ⌝ }
@@ -39,8 +42,8 @@ pub fn tool_numbers(k: Kind, a: ToolMeasurement, f: Found) -> [i32; 42]
     n
 }
 
-// Those of a measurement with zero offset; k is its kind. No call of a user.
-pub fn zero_numbers(k: Kind, a: ZeroMeasurement, s: Sizes) -> [i32; 42]
+// Those of a measurement with zero offset; k is its kind.
+fn zero_numbers(k: Kind, a: ZeroMeasurement, s: Sizes) -> [i32; 42]
     requires { ⌜ k ≡ zeroKindOf a ⌝ }
     requires { ⌜ ZeroArgumentsPassed a × SizesSmall s ⌝ }
     ensures { λ r. ⌜ r ≡ zeroFilled a s ⌝ }
@@ -50,4 +53,26 @@ pub fn zero_numbers(k: Kind, a: ZeroMeasurement, s: Sizes) -> [i32; 42]
     n[28] = narrow(a.tsa);
     n[32] = narrow(a.offset);
     n
+}
+
+// Writes those of a measurement with tool offset, made only where there is room for them. No call of a user.
+pub fn put_tool_numbers(k: Kind, a: ToolMeasurement, f: Found, array: &mut [i32], place: usize)
+    requires { ⌜ k ≡ toolKindOf a ⌝ }
+    requires { ⌜ ToolArgumentsPassed a × FoundSmall f ⌝ }
+    ensures { λ _. ⌜ now (array .exit) ≡ arrayAfter (now (array .entry)) place (toolFilled a f) ⌝ }
+{
+    if has_room(array.len(), place) {
+        write_results(tool_numbers(k, a, f), array, place);
+    }
+}
+
+// Writes those of a measurement with zero offset, made only where there is room for them. No call of a user.
+pub fn put_zero_numbers(k: Kind, a: ZeroMeasurement, s: Sizes, array: &mut [i32], place: usize)
+    requires { ⌜ k ≡ zeroKindOf a ⌝ }
+    requires { ⌜ ZeroArgumentsPassed a × SizesSmall s ⌝ }
+    ensures { λ _. ⌜ now (array .exit) ≡ arrayAfter (now (array .entry)) place (zeroFilled a s) ⌝ }
+{
+    if has_room(array.len(), place) {
+        write_results(zero_numbers(k, a, s), array, place);
+    }
 }

@@ -1,43 +1,95 @@
 // Measurements with tool offset, in place on a lent area. Document 01, 'Tolerance, mean, correction'.
 use area::AREA;
+use area::MEANS;
+use area::TOOLS;
 use area::WRONG_AREA;
 use evaluation::tool_evaluation;
 use kinds::kind_of;
+use layout::put_record;
 use measuring::Decided;
+use measuring::decided_by;
+use measuring::lent_refusal;
 use measuring::not_answered;
 use measuring::not_decided;
+use measuring::refused;
 use package::arguments::ToolMeasurement;
 use package::found::Answer;
+use package::records::Wear;
 use package::refusals::DONE;
-use package::refusals::NO_ROOM;
-use result_numbers::tool_numbers;
-use results::has_room;
-use results::refused_numbers;
-use results::write_results;
-use tool_outcome::ToolOutcome;
-use tool_outcome::evaluate_tool;
+use reading::tool_records;
+use result_numbers::put_tool_numbers;
+use results::records_refusal;
+use tool_offset::tool_found;
+use tool_offset::tool_refusal;
+use tool_offset::tool_tests;
+use wears::wears_left;
 ghost use mathlib.Core.Path.{_≡_};
+ghost use mathlib.Core.Bool.{true};
+ghost use mathlib.Core.List.{[], _∷_};
+ghost use lib.ListN.{length};
+ghost use Rattle.rules.specs.Stores.{valueRange, means, tools};
+ghost use Rattle.rules.specs.Changes.{write};
 ghost use Rattle.rules.specs.Measuring.{lent};
 ghost use Rattle.rules.specs.Calls.{measureTool};
+ghost use Rattle.rules.specs.Passed.{ToolNumbers};
+ghost use Rattle.area.specs.Table.{areaLength};
+ghost use Rattle.area.specs.Renewed.{renewedAll};
 ghost use Rattle.area.specs.Called.{answered, called};
-ghost use Rattle.measuring.specs.Reply.{reply, toolReplied};
+ghost use Rattle.measuring.specs.Reply.{measuredAs, toolMeasured, reply, toolReplied};
 
-// Measures for a line of a job: nobody reads its 42 numbers.
-pub fn tool_line(area: &mut [i32], a: ToolMeasurement) -> Answer
-    ensures { λ r. ⌜ answered (r .refusal) (r .evaluation) (now (area .exit)) ≡ called (now (area .entry)) (measureTool a lent 0) ⌝ }
+// Writes the mean value and the wears that a measurement leaves.
+fn put_tool(area: &mut [i32], a: ToolMeasurement, mean: i64, w: Wear)
+    requires { ⌜ length (now area) ≡ areaLength ⌝ }
+    requires { ⌜ ToolNumbers a ⌝ }
+    requires { ⌜ valueRange mean ≡ true ⌝ }
+    ensures { λ _. ⌜ now (area .exit) ≡ renewedAll (now (area .entry)) (write means (a .mv) mean ∷ write tools (a .tool) w ∷ []) ⌝ }
+{
+    let value = [mean as i32];
+    put_record(area, MEANS, a.mv, &value);
+    let wear = [w.radius, w.length];
+    put_record(area, TOOLS, a.tool, &wear);
+}
+
+// Measures; the 42 numbers that begin at place are written where there is room for them, and it is not refused where there is none.
+pub fn evaluate_tool(
+    area: &mut [i32],
+    a: ToolMeasurement,
+    results: &mut [i32],
+    place: usize,
+) -> Answer
+    ensures { λ r. ⌜ measuredAs (answered (r .refusal) (r .evaluation) (now (area .exit))) (now (results .exit))
+        ≡ toolMeasured (now (area .entry)) a (now (results .entry)) place ⌝ }
 {
     if area.len() != AREA {
         return not_answered(WRONG_AREA);
     }
     let probing = a.probing;
-    let outcome = evaluate_tool(area, kind_of(probing.kind), a);
-    match outcome {
-        ToolOutcome::Refused(n) => not_answered(n),
-        ToolOutcome::Done(f) => Answer {
-            refusal: DONE,
-            evaluation: tool_evaluation(a, f),
-        },
+    let k = kind_of(probing.kind);
+    let stated = tool_refusal(k, a);
+    if stated != DONE {
+        return refused(stated, results, place);
     }
+    let r = tool_records(&area[..], a);
+    let f = tool_found(r, k, a);
+    let refusal = records_refusal(tool_tests(k, a, f));
+    if refusal != DONE {
+        return refused(refusal, results, place);
+    }
+    let w = r.wear;
+    put_tool(area, a, f.decision.mean, wears_left(w, k, probing, f.wear));
+    put_tool_numbers(k, a, f, results, place);
+    Answer {
+        refusal: DONE,
+        evaluation: tool_evaluation(a, f),
+    }
+}
+
+// Measures for a line of a job: nobody reads its 42 numbers, and no room is lent for them.
+pub fn tool_line(area: &mut [i32], a: ToolMeasurement) -> Answer
+    ensures { λ r. ⌜ answered (r .refusal) (r .evaluation) (now (area .exit)) ≡ called (now (area .entry)) (measureTool a lent 0) ⌝ }
+{
+    let mut none = [0i32; 0];
+    evaluate_tool(area, a, &mut none, 0)
 }
 
 // Measures and writes the 42 numbers that begin at place.
@@ -49,28 +101,9 @@ pub fn measure_tool(
 ) -> Decided
     ensures { λ r. ⌜ reply r (now (area .exit)) (now (results .exit)) ≡ toolReplied (now (area .entry)) a (now (results .entry)) place ⌝ }
 {
-    if area.len() != AREA {
-        return not_decided(WRONG_AREA);
+    let lent = lent_refusal(area.len(), results.len(), place);
+    if lent != DONE {
+        return not_decided(lent);
     }
-    if !has_room(results.len(), place) {
-        return not_decided(NO_ROOM);
-    }
-    let probing = a.probing;
-    let k = kind_of(probing.kind);
-    let outcome = evaluate_tool(area, k, a);
-    match outcome {
-        ToolOutcome::Refused(n) => {
-            write_results(refused_numbers(n), results, place);
-            not_decided(n)
-        }
-        ToolOutcome::Done(f) => {
-            write_results(tool_numbers(k, a, f), results, place);
-            let e = tool_evaluation(a, f);
-            Decided {
-                refusal: DONE,
-                branch: e.branch,
-                verdict: e.verdict,
-            }
-        }
-    }
+    decided_by(evaluate_tool(area, a, results, place))
 }

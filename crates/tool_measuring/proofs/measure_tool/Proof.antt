@@ -1,26 +1,7 @@
--- By the cases of the reply: an area of another length, no room, refused or done; the last two are what the evaluation ensures, then written.
-use mathlib.Core.Path.{_≡_, sym, subst, ap, _∙_}
-use mathlib.Core.Bool.{true}
-use Prim.Native.Nat.{_+_, _≤_}
-use lib.Dec.{leb}
-use lib.ListN.{length}
+-- What is lent turns it away, or it is handed on: both by the laws of either way of measuring.
 use borrow.Author.Needs.{needs}
-use borrow.Author.Tests.{leb-true}
-use Rattle.signed.specs.CodeLaws.{read, failed, passed}
-use Rattle.lists.specs.Written.{written}
-use Rattle.package.specs.declared.arguments.ToolMeasurement.{ToolMeasurement}
-use Rattle.rules.specs.Refusals.{first}
-use Rattle.rules.specs.Stores.{Package}
-use Rattle.rules.specs.Tool.{toolKindOf, toolRules}
-use Rattle.rules.specs.Passed.{tool-passed}
-use Rattle.rules.specs.Results.{toolEvaluation, toolFilled}
-use Rattle.rules.specs.Measuring.{lent}
-use Rattle.rules.specs.Calls.{measureTool, toolRead, refusal}
-use Rattle.rules.specs.EvaluationLaws.{refusal-small}
-use Rattle.area.specs.Table.{held}
-use Rattle.measuring.specs.ReplyLaws.{Way, toolWay, wrong-area, no-room, refused, done}
-use Rattle.tool_outcome.specs.ToolOutcome.{ToolEvaluated}
-use Rattle.tool_outcome.specs.declared.ToolOutcome.{ToolOutcome}
+use mathlib.Core.Path.{sym, _∙_}
+use Rattle.measuring.specs.ReplyLaws.{Way, toolWay, turned-away, handed-on}
 use Rattle.tool_measuring.proofs.measure_tool.Statement.{statement}
 use Rattle.tool_measuring.proofs.measure_tool.Tie as tie
 
@@ -28,110 +9,19 @@ abbrev way : (s : tie.Start) → Way (s .args .area .now) (s .args .results .now
 way s = toolWay (s .args .area .now) (s .args .results .now) (s .args .place) (s .args .a)
 
 returns : tie.Need-returns
-returns c = rw (c .not-decided .ensures) (wrong-area (way (c .before .before)) (c .before .if1 .taken))
+returns c =
+    let l = c .before .before in
+    rw (c .not-decided .ensures) (turned-away (way (l .before)) (l .lent-refusal .ensures) (c .before .if1 .taken))
 
 returns-2 : tie.Need-returns-2
 returns-2 c =
-    let t = c .before in
-    let h = t .before in
-    let e = h .before in
-    rw (c .not-decided2 .ensures) (no-room (way (e .before)) (e .if1 .left) (failed (h .has-room .ensures) (t .if2 .taken)))
-
--- ---- where there is room
-module _ (c : tie.After-kind-of) where
-  abbrev at-room : tie.Else2
-  at-room = c .before .before .before
-
-  abbrev at-whole : tie.Else1
-  at-whole = at-room .before .before
-
-  abbrev start : tie.Start
-  start = at-whole .before
-
-  room : leb (start .args .place + 42) (length (start .args .results .now)) ≡ true
-  room = passed (at-room .before .has-room .ensures) (at-room .if2 .left)
-
-  kind-is : c .kind-of .result ≡ toolKindOf (start .args .a)
-  kind-is = rw (read (start .args .a .probing .kind) (c .before .struct-told .given .0 .1)) at (c .kind-of .ensures)
-
-  has-place : start .args .place + 42 ≤ length (start .args .results .now)
-  has-place = leb-true (start .args .place + 42) (length (start .args .results .now)) room
-
-evaluate-tool-requires : tie.Need-evaluate-tool-requires
-evaluate-tool-requires c κs = let k = c .before in (at-whole k .if1 .left, kind-is k)
-
--- ---- what became of it, by the arms
-abbrev kind : tie.After-area → tie.After-kind-of
-kind c = c .before .before .before
-
-module _ (c : tie.After-area) where
-  abbrev from : tie.Start
-  from = start (kind c)
-
-  outcome-is : {o : ToolOutcome} → c .before .evaluate-tool .result ≡ o
-      → ToolEvaluated (from .args .a) (from .args .area .now) (c .before .evaluate-tool .last .0) o
-  outcome-is e = subst (ToolEvaluated (from .args .a) (from .args .area .now) (c .before .evaluate-tool .last .0)) e (c .before .evaluate-tool .ensures)
-
-returns-3 : tie.Need-returns-3
-returns-3 c =
-    let w = c .before .before in
-    let n = w .before .before in
-    let o = n .before .before in
-    let m = o .before .before in
-    let k = kind m in
-    let s = from m in
-    let h = outcome-is m (o .outcome .given .1) in
-    rw (c .not-decided3 .ensures)
-    (refused (way s) (at-whole k .if1 .left) (room k) (h .0) (h .1)
-    (w .write-results .ensures ∙ ap (written (s .args .results .now) (s .args .place)) (n .refused-numbers .ensures)))
-
-returns-4 : tie.Need-returns-4
-returns-4 c =
-    let w = c .before .before in
-    let n = w .before .before in
-    let o = n .before .before in
-    let m = o .before .before in
-    let k = kind m in
-    let s = from m in
-    let a = s .args .a in
-    let h = outcome-is m (o .outcome2 .given .1) in
-    let numbers = n .tool-numbers .ensures ∙ ap (toolFilled a) (h .1 .0) in
-    done (way s) (at-whole k .if1 .left) (room k) (h .0) (c .tool-evaluation .ensures ∙ ap (toolEvaluation a) (h .1 .0))
-    (w .write-results2 .ensures ∙ ap (written (s .args .results .now) (s .args .place)) numbers)
-
-small : (p : Package) (a : ToolMeasurement) → first (toolRules (toolRead p a) a) ≤ 9
-unfolding refusal
-small p a = refusal-small p (measureTool a lent 0)
-
-refused-numbers-requires : tie.Need-refused-numbers-requires
-refused-numbers-requires c κs =
-    let o = c .before in
-    let m = o .before .before in
-    let s = from m in
-    rw (outcome-is m (o .outcome .given .1) .0 .refusal) (small (held (s .args .area .now)) (s .args .a))
-
-write-results-requires : tie.Need-write-results-requires
-write-results-requires c κs = has-place (kind (c .before .before .before .before .before))
-
-tool-numbers-requires : tie.Need-tool-numbers-requires
-tool-numbers-requires c κs =
-    let o = c .before in
-    let m = o .before .before in
-    let s = from m in
-    let h = outcome-is m (o .outcome2 .given .1) in
-    (kind-is (kind m), (tool-passed (toolRead (held (s .args .area .now)) (s .args .a)) (s .args .a) (sym (h .0 .refusal)) .arguments, h .1 .1))
-
-write-results-requires-2 : tie.Need-write-results-requires-2
-write-results-requires-2 c κs = has-place (kind (c .before .before .before .before .before))
-
-tool-evaluation-requires : tie.Need-tool-evaluation-requires
-tool-evaluation-requires c κs =
-    let o = c .before .before .before .before .before in
-    outcome-is (o .before .before) (o .outcome2 .given .1) .1 .1
+    let m = c .before .before .before in
+    let e = m .before .before .before in
+    let l = e .before in
+    rw (c .decided-by .ensures) (handed-on (way (l .before)) (sym (l .lent-refusal .ensures) ∙ e .if1 .left) (m .evaluate-tool .ensures))
 
 pub measure-tool-spec : {M : Type 1} → statement M
 measure-tool-spec =
     tie.close
-    (tie.spec (λ c κs. search needs) returns (λ c κs. search needs) (λ c κs. search needs) returns-2 (λ c κs. search needs) evaluate-tool-requires
-    (λ c. search needs) refused-numbers-requires write-results-requires (λ c κs. search needs) (λ c. search needs) tool-numbers-requires
-    write-results-requires-2 tool-evaluation-requires (λ c. search needs) (λ c. search needs) returns-3 (λ c. search needs) (λ c. search needs) returns-4)
+    (tie.spec (λ c κs. search needs) (λ c κs. search needs) returns (λ c κs. search needs) (λ c κs. search needs) (λ c. search needs) (λ c. search needs)
+    returns-2)

@@ -11,8 +11,8 @@ use Rattle.signed.specs.RangeLaws.{or-zero}
 use Rattle.rules.specs.Stores.{tools}
 use Rattle.rules.specs.Changes.{write}
 use Rattle.area.specs.Renewed.{renewed}
-use Rattle.tool_outcome.proofs.put_tool.Statement.{statement}
-use Rattle.tool_outcome.proofs.put_tool.Tie as tie
+use Rattle.tool_measuring.proofs.put_tool.Statement.{statement}
+use Rattle.tool_measuring.proofs.put_tool.Tie as tie
 
 value : (s : tie.Start) → Cast w32 (s .args .mean)
 value s = casts w32 (minus 32768) (pos 32767) (s .fits .mean) tt tt (s .pre .1 .1)

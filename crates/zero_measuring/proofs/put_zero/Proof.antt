@@ -3,8 +3,8 @@ use native.Mathlib.Omega.{arith}
 use borrow.Author.Needs.{needs}
 use Rattle.signed.specs.CodeLaws.{read}
 use Rattle.signed.specs.RangeLaws.{or-zero}
-use Rattle.zero_outcome.proofs.put_zero.Statement.{statement}
-use Rattle.zero_outcome.proofs.put_zero.Tie as tie
+use Rattle.zero_measuring.proofs.put_zero.Statement.{statement}
+use Rattle.zero_measuring.proofs.put_zero.Tie as tie
 
 put-record-requires : tie.Need-put-record-requires
 put-record-requires c κs =
