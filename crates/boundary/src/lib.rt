@@ -1,6 +1,4 @@
 // The calls for C: each hands on to the call in place, on the area that the caller lends.
-use area::AREA;
-use area::WRONG_AREA;
 use arguments::tool_of;
 use arguments::zero_of;
 use calibrating::calibrate_by;
@@ -8,29 +6,30 @@ use calibrating::probe_status;
 use jobs::Ran;
 use jobs::run_job;
 use measuring::Decided;
+use measuring::Lent;
+use measuring::decided_by;
+use measuring::lent_refusal;
 use measuring::not_decided;
 use memory::load;
 use memory::save;
 use package::records::Status;
+use package::refusals::DONE;
 use settings::fresh;
 use settings::set_empirical;
 use settings::set_offset;
 use settings::set_wear;
-use tool_measuring::measure_tool;
-use zero_measuring::measure_zero;
+use tool_measuring::evaluate_tool;
+use zero_measuring::evaluate_zero;
 ghost use mathlib.Core.Path.{_≡_};
 ghost use Rattle.rules.specs.Calibration.{calibration};
 ghost use Rattle.rules.specs.Calls.{setEmpirical, setWear, setOffset, calibrate, load};
 ghost use Rattle.area.specs.Called.{unmeasured, called, freshCalled};
 ghost use Rattle.calibrating.specs.StatusRead.{statusCalled};
 ghost use Rattle.memory.specs.Saved.{savedAs, saveCalled};
-ghost use Rattle.measuring.specs.Reply.{reply};
+ghost use Rattle.measuring.specs.Reply.{reply, toolExported, zeroExported};
 ghost use Rattle.jobs.specs.Jobs.{jobLeft, jobCalled};
-ghost use Rattle.boundary.specs.Exported.{toolExported, zeroExported};
 
-// The refusal of arguments that are not as many as a measurement's, and how many these are.
-pub const WRONG_ARGUMENTS: u32 = 101;
-
+// How many arguments a measurement has.
 const TOOL_NUMBERS: usize = 21;
 
 const ZERO_NUMBERS: usize = 13;
@@ -108,13 +107,17 @@ pub extern "C" fn mezhtolik_measure_tool(
 ) -> Decided
     ensures { λ r. ⌜ reply r (now (area .exit)) (now (results .exit)) ≡ toolExported (now (area .entry)) (now (numbers .entry)) (now (results .entry)) place ⌝ }
 {
-    if area.len() != AREA {
-        return not_decided(WRONG_AREA);
+    let lent = Lent {
+        area: area.len(),
+        numbers: numbers.len(),
+        array: results.len(),
+        place,
+    };
+    let refusal = lent_refusal(lent, TOOL_NUMBERS);
+    if refusal != DONE {
+        return not_decided(refusal);
     }
-    if numbers.len() != TOOL_NUMBERS {
-        return not_decided(WRONG_ARGUMENTS);
-    }
-    measure_tool(area, tool_of(numbers), results, place)
+    decided_by(evaluate_tool(area, tool_of(numbers), results, place))
 }
 
 // Measures with zero offset by 13 numbers and writes the 42 numbers that begin at place.
@@ -127,13 +130,17 @@ pub extern "C" fn mezhtolik_measure_zero(
 ) -> Decided
     ensures { λ r. ⌜ reply r (now (area .exit)) (now (results .exit)) ≡ zeroExported (now (area .entry)) (now (numbers .entry)) (now (results .entry)) place ⌝ }
 {
-    if area.len() != AREA {
-        return not_decided(WRONG_AREA);
+    let lent = Lent {
+        area: area.len(),
+        numbers: numbers.len(),
+        array: results.len(),
+        place,
+    };
+    let refusal = lent_refusal(lent, ZERO_NUMBERS);
+    if refusal != DONE {
+        return not_decided(refusal);
     }
-    if numbers.len() != ZERO_NUMBERS {
-        return not_decided(WRONG_ARGUMENTS);
-    }
-    measure_zero(area, zero_of(numbers), results, place)
+    decided_by(evaluate_zero(area, zero_of(numbers), results, place))
 }
 
 // Replaces all empirical and mean values by those of a block of 80 bytes.

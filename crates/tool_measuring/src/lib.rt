@@ -6,11 +6,7 @@ use area::WRONG_AREA;
 use evaluation::tool_evaluation;
 use kinds::kind_of;
 use layout::put_record;
-use measuring::Decided;
-use measuring::decided_by;
-use measuring::lent_refusal;
 use measuring::not_answered;
-use measuring::not_decided;
 use measuring::refused;
 use package::arguments::ToolMeasurement;
 use package::found::Answer;
@@ -35,7 +31,7 @@ ghost use Rattle.rules.specs.Passed.{ToolNumbers};
 ghost use Rattle.area.specs.Table.{areaLength};
 ghost use Rattle.area.specs.Renewed.{renewedAll};
 ghost use Rattle.area.specs.Called.{answered, called};
-ghost use Rattle.measuring.specs.Reply.{measuredAs, toolMeasured, reply, toolReplied};
+ghost use Rattle.measuring.specs.Reply.{measuredAs, toolMeasured};
 
 // Writes the mean value and the wears that a measurement leaves.
 fn put_tool(area: &mut [i32], a: ToolMeasurement, mean: i64, w: Wear)
@@ -90,20 +86,4 @@ pub fn tool_line(area: &mut [i32], a: ToolMeasurement) -> Answer
 {
     let mut none = [0i32; 0];
     evaluate_tool(area, a, &mut none, 0)
-}
-
-// Measures and writes the 42 numbers that begin at place.
-pub fn measure_tool(
-    area: &mut [i32],
-    a: ToolMeasurement,
-    results: &mut [i32],
-    place: usize,
-) -> Decided
-    ensures { λ r. ⌜ reply r (now (area .exit)) (now (results .exit)) ≡ toolReplied (now (area .entry)) a (now (results .entry)) place ⌝ }
-{
-    let lent = lent_refusal(area.len(), results.len(), place);
-    if lent != DONE {
-        return not_decided(lent);
-    }
-    decided_by(evaluate_tool(area, a, results, place))
 }

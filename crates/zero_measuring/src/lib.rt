@@ -4,11 +4,7 @@ use area::OFFSETS;
 use area::WRONG_AREA;
 use evaluation::zero_evaluation;
 use layout::put_record;
-use measuring::Decided;
-use measuring::decided_by;
-use measuring::lent_refusal;
 use measuring::not_answered;
-use measuring::not_decided;
 use measuring::refused;
 use package::arguments::ZeroMeasurement;
 use package::found::Answer;
@@ -33,7 +29,7 @@ ghost use Rattle.rules.specs.Passed.{ZeroNumbers};
 ghost use Rattle.area.specs.Table.{areaLength};
 ghost use Rattle.area.specs.Renewed.{renewedAll};
 ghost use Rattle.area.specs.Called.{answered, called};
-ghost use Rattle.measuring.specs.Reply.{measuredAs, zeroMeasured, reply, zeroReplied};
+ghost use Rattle.measuring.specs.Reply.{measuredAs, zeroMeasured};
 
 // Writes the zero offset that a measurement leaves.
 fn put_zero(area: &mut [i32], a: ZeroMeasurement, o: Offset)
@@ -86,20 +82,4 @@ pub fn zero_line(area: &mut [i32], a: ZeroMeasurement) -> Answer
 {
     let mut none = [0i32; 0];
     evaluate_zero(area, a, &mut none, 0)
-}
-
-// Measures and writes the 42 numbers that begin at place.
-pub fn measure_zero(
-    area: &mut [i32],
-    a: ZeroMeasurement,
-    results: &mut [i32],
-    place: usize,
-) -> Decided
-    ensures { λ r. ⌜ reply r (now (area .exit)) (now (results .exit)) ≡ zeroReplied (now (area .entry)) a (now (results .entry)) place ⌝ }
-{
-    let lent = lent_refusal(area.len(), results.len(), place);
-    if lent != DONE {
-        return not_decided(lent);
-    }
-    decided_by(evaluate_zero(area, a, results, place))
 }

@@ -1,41 +1,44 @@
--- Three cases, a law each: an area of the wrong length, numbers that are not 21, or the reply of the measurement by these numbers.
-use mathlib.Core.Path.{ap, _∙_}
+-- What is lent turns it away, or it is handed on: both by the laws of either way of measuring.
+use mathlib.Core.Path.{_≡_, sym, ap, _∙_}
+use native.Mathlib.Omega.{arith}
 use borrow.Author.Needs.{needs}
 use Rattle.package.specs.declared.arguments.ToolMeasurement.{ToolMeasurement}
 use Rattle.arguments.specs.Arguments.{toolOf}
-use Rattle.measuring.specs.Reply.{Reply, toolReplied}
-use Rattle.boundary.specs.ExportedLaws.{exported-wrong, exported-short, exported-made}
+use Rattle.rules.specs.Refusals.{first}
+use Rattle.measuring.specs.Reply.{lengths, lentRules, toolMeasured}
+use Rattle.measuring.specs.ReplyLaws.{Way, toolWay, turned-away, as-many, handed-on}
 use Rattle.boundary.proofs.mezhtolik_measure_tool.Statement.{statement}
 use Rattle.boundary.proofs.mezhtolik_measure_tool.Tie as tie
 
-abbrev wanted : tie.Start → Reply
-wanted s = toolReplied (s .args .area .now) (toolOf (s .args .numbers .now)) (s .args .results .now) (s .args .place)
+abbrev way : (s : tie.Start) → Way (s .args .area .now) (s .args .results .now) (s .args .place)
+way s = toolWay (s .args .area .now) (s .args .results .now) (s .args .place) (toolOf (s .args .numbers .now))
 
 returns : tie.Need-returns
 returns c =
-    let s = c .before .before in
-    rw (c .not-decided .ensures) (exported-wrong (s .args .area .now) (s .args .numbers .now) (s .args .results .now) 21 (wanted s) (c .before .if1 .taken))
+    let l = c .before .before in
+    let s = l .before in
+    rw (c .not-decided .ensures) (turned-away (way s) (s .args .numbers .now) 21 (l .lent-refusal .ensures) (c .before .if1 .taken))
+
+-- nothing of what is lent refuses it
+none : (c : tie.Else1) → let s = c .before .before in
+    first (lentRules (lengths (s .args .area .now) (s .args .numbers .now) (s .args .results .now) (s .args .place)) 21) ≡ 0
+none c = sym (c .before .lent-refusal .ensures) ∙ c .if1 .left
+
+tool-of-requires : tie.Need-tool-of-requires
+tool-of-requires c κs = let e = c .before in let s = e .before .before in omega (arith, as-many (way s) (s .args .numbers .now) 21 (none e))
 
 returns-2 : tie.Need-returns-2
 returns-2 c =
-    let t = c .before in
-    let e = t .before in
-    let s = e .before in
-    rw (c .not-decided2 .ensures)
-    (exported-short (s .args .area .now) (s .args .numbers .now) (s .args .results .now) 21 (wanted s) (e .if1 .left) (t .if2 .taken))
-
-returns-3 : tie.Need-returns-3
-returns-3 c =
-    let m = c .before .before in
+    let m = c .before .before .before in
     let o = m .before .before in
-    let t = o .before .before in
-    let e = t .before in
-    let s = e .before in
-    exported-made (s .args .area .now) (s .args .numbers .now) (s .args .results .now) 21 (wanted s) (e .if1 .left) (t .if2 .left)
-    (m .measure-tool .ensures ∙ ap (λ (a : ToolMeasurement). toolReplied (s .args .area .now) a (s .args .results .now) (s .args .place)) (o .tool-of .ensures))
+    let e = o .before .before in
+    let s = e .before .before in
+    let measured = m .evaluate-tool .ensures
+    ∙ ap (λ (a : ToolMeasurement). toolMeasured (s .args .area .now) a (s .args .results .now) (s .args .place)) (o .tool-of .ensures) in
+    rw (c .decided-by .ensures) (handed-on (way s) (s .args .numbers .now) 21 (none e) measured)
 
 pub mezhtolik-measure-tool-spec : {M : Type 1} → statement M
 mezhtolik-measure-tool-spec =
     tie.close
-    (tie.spec (λ c κs. search needs) returns (λ c κs. search needs) returns-2 (λ c κs. search needs) (λ c κs. search needs) (λ c. search needs)
-    (λ c. search needs) returns-3)
+    (tie.spec (λ c κs. search needs) (λ c κs. search needs) returns tool-of-requires (λ c κs. search needs) (λ c κs. search needs) (λ c. search needs)
+    (λ c. search needs) returns-2)

@@ -1,41 +1,44 @@
--- By cases: an area of another length, another count of numbers, or the reply of the measurement of the arguments that the numbers give.
-use mathlib.Core.Path.{ap, _∙_}
+-- What is lent turns it away, or it is handed on: both by the laws of either way of measuring.
+use mathlib.Core.Path.{_≡_, sym, ap, _∙_}
+use native.Mathlib.Omega.{arith}
 use borrow.Author.Needs.{needs}
 use Rattle.package.specs.declared.arguments.ZeroMeasurement.{ZeroMeasurement}
 use Rattle.arguments.specs.Arguments.{zeroOf}
-use Rattle.measuring.specs.Reply.{Reply, zeroReplied}
-use Rattle.boundary.specs.ExportedLaws.{exported-wrong, exported-short, exported-made}
+use Rattle.rules.specs.Refusals.{first}
+use Rattle.measuring.specs.Reply.{lengths, lentRules, zeroMeasured}
+use Rattle.measuring.specs.ReplyLaws.{Way, zeroWay, turned-away, as-many, handed-on}
 use Rattle.boundary.proofs.mezhtolik_measure_zero.Statement.{statement}
 use Rattle.boundary.proofs.mezhtolik_measure_zero.Tie as tie
 
-abbrev wanted : tie.Start → Reply
-wanted s = zeroReplied (s .args .area .now) (zeroOf (s .args .numbers .now)) (s .args .results .now) (s .args .place)
+abbrev way : (s : tie.Start) → Way (s .args .area .now) (s .args .results .now) (s .args .place)
+way s = zeroWay (s .args .area .now) (s .args .results .now) (s .args .place) (zeroOf (s .args .numbers .now))
 
 returns : tie.Need-returns
 returns c =
-    let s = c .before .before in
-    rw (c .not-decided .ensures) (exported-wrong (s .args .area .now) (s .args .numbers .now) (s .args .results .now) 13 (wanted s) (c .before .if1 .taken))
+    let l = c .before .before in
+    let s = l .before in
+    rw (c .not-decided .ensures) (turned-away (way s) (s .args .numbers .now) 13 (l .lent-refusal .ensures) (c .before .if1 .taken))
+
+-- nothing of what is lent refuses it
+none : (c : tie.Else1) → let s = c .before .before in
+    first (lentRules (lengths (s .args .area .now) (s .args .numbers .now) (s .args .results .now) (s .args .place)) 13) ≡ 0
+none c = sym (c .before .lent-refusal .ensures) ∙ c .if1 .left
+
+zero-of-requires : tie.Need-zero-of-requires
+zero-of-requires c κs = let e = c .before in let s = e .before .before in omega (arith, as-many (way s) (s .args .numbers .now) 13 (none e))
 
 returns-2 : tie.Need-returns-2
 returns-2 c =
-    let t = c .before in
-    let e = t .before in
-    let s = e .before in
-    rw (c .not-decided2 .ensures)
-    (exported-short (s .args .area .now) (s .args .numbers .now) (s .args .results .now) 13 (wanted s) (e .if1 .left) (t .if2 .taken))
-
-returns-3 : tie.Need-returns-3
-returns-3 c =
-    let m = c .before .before in
+    let m = c .before .before .before in
     let o = m .before .before in
-    let t = o .before .before in
-    let e = t .before in
-    let s = e .before in
-    exported-made (s .args .area .now) (s .args .numbers .now) (s .args .results .now) 13 (wanted s) (e .if1 .left) (t .if2 .left)
-    (m .measure-zero .ensures ∙ ap (λ (a : ZeroMeasurement). zeroReplied (s .args .area .now) a (s .args .results .now) (s .args .place)) (o .zero-of .ensures))
+    let e = o .before .before in
+    let s = e .before .before in
+    let measured = m .evaluate-zero .ensures
+    ∙ ap (λ (a : ZeroMeasurement). zeroMeasured (s .args .area .now) a (s .args .results .now) (s .args .place)) (o .zero-of .ensures) in
+    rw (c .decided-by .ensures) (handed-on (way s) (s .args .numbers .now) 13 (none e) measured)
 
 pub mezhtolik-measure-zero-spec : {M : Type 1} → statement M
 mezhtolik-measure-zero-spec =
     tie.close
-    (tie.spec (λ c κs. search needs) returns (λ c κs. search needs) returns-2 (λ c κs. search needs) (λ c κs. search needs) (λ c. search needs)
-    (λ c. search needs) returns-3)
+    (tie.spec (λ c κs. search needs) (λ c κs. search needs) returns zero-of-requires (λ c κs. search needs) (λ c κs. search needs) (λ c. search needs)
+    (λ c. search needs) returns-2)

@@ -1,4 +1,4 @@
--- By the tests in the order of the rules: the area's length, then the room.
+-- By the tests in the order of the rules: the area's length, the number of arguments, the room.
 use borrow.Author.Needs.{needs}
 use borrow.Author.Tests.{eq-eqb, ne-eqb}
 use Rattle.signed.specs.CodeLaws.{failed, passed}
@@ -7,17 +7,37 @@ use Rattle.measuring.proofs.lent_refusal.Statement.{statement}
 use Rattle.measuring.proofs.lent_refusal.Tie as tie
 
 returns : tie.Need-returns
-returns c = rw (ne-eqb (c .before .args .area) areaLength (c .if1 .taken))
+returns c = rw (ne-eqb (c .before .before .args .l .area) areaLength (c .if1 .taken))
 
 returns-2 : tie.Need-returns-2
 returns-2 c =
-    let r = c .before in
-    rw (eq-eqb (r .before .before .args .area) areaLength (r .before .if1 .left), failed (r .has-room .ensures) (c .if2 .taken))
+    let e = c .before .before in
+    let s = e .before .before in
+    rw (eq-eqb (s .args .l .area) areaLength (e .if1 .left), ne-eqb (s .args .l .numbers) (s .args .count) (c .if2 .taken))
 
 returns-3 : tie.Need-returns-3
 returns-3 c =
     let r = c .before in
-    rw (eq-eqb (r .before .before .args .area) areaLength (r .before .if1 .left), passed (r .has-room .ensures) (c .if2 .left))
+    let g = r .before in
+    let e = g .before .before in
+    let s = e .before .before in
+    rw (
+      eq-eqb (s .args .l .area) areaLength (e .if1 .left),
+      eq-eqb (s .args .l .numbers) (s .args .count) (g .if2 .left),
+      failed (r .has-room .ensures) (c .if3 .taken),
+    )
+
+returns-4 : tie.Need-returns-4
+returns-4 c =
+    let r = c .before in
+    let g = r .before in
+    let e = g .before .before in
+    let s = e .before .before in
+    rw (
+      eq-eqb (s .args .l .area) areaLength (e .if1 .left),
+      eq-eqb (s .args .l .numbers) (s .args .count) (g .if2 .left),
+      passed (r .has-room .ensures) (c .if3 .left),
+    )
 
 pub lent-refusal-spec : {M : Type 1} → statement M
-lent-refusal-spec = tie.close (tie.spec returns (λ c κs. search needs) returns-2 returns-3)
+lent-refusal-spec = tie.close (tie.spec returns returns-2 (λ c κs. search needs) returns-3 returns-4)

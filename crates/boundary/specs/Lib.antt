@@ -1,2 +1,0 @@
-pub mod Exported
-pub mod ExportedLaws
