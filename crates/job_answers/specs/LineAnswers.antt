@@ -18,7 +18,7 @@ wholeField n byte = decimal n ++ (byte ∷ [])
 abbrev pub signedField : ℤ → ℕ → List ℕ
 signedField z byte = signedDecimal z ++ (byte ∷ [])
 
--- six numbers with commas between them and a line feed behind
+-- the last four numbers of an answer, and all six, with commas between them and a line feed behind
 abbrev pub evaluationText : Evaluation → List ℕ
 evaluationText e = wholeField (e .branch) comma ++ wholeField (e .verdict) comma ++ signedField (e .deviation) comma ++ signedField (e .correction) lineFeed
 

@@ -7,7 +7,7 @@ use native.Mathlib.Omega.{arith}
 use lib.IntN.{ℤ, pos}
 use lib.ListN.{length, getD}
 use lib.Signed.{_≤ℤ_}
-use Rattle.signed.specs.Ranges.{minus, within}
+use Rattle.signed.specs.Ranges.{minus}
 use Rattle.signed.specs.RangeLaws.{within-is}
 use Rattle.lists.specs.Each.{each-at}
 use Rattle.rules.specs.Stores.{Package, StoreName, probes, empiricals, means, tools, offsets, Holds, nothing, entries}

@@ -1,3 +1,4 @@
+-- Size and setpoint are bounded by the precondition, so that their difference fits 32 bits and the cast keeps it; the other fields are fixed.
 use native.Mathlib.Omega.{arith}
 use Rattle.evaluation.proofs.Laws.{narrowed}
 use Rattle.evaluation.proofs.zero_evaluation.Statement.{statement}

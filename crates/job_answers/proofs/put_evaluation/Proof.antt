@@ -1,9 +1,12 @@
 -- Each field stands behind those before it: the text so far, its room, and what has been written.
 use mathlib.Core.Path.{ap, _∙_}
 use mathlib.Core.List.{List, _++_}
-use Prim.Native.Nat.{ℕ, _+_, _≤_}
+use Prim.Native.Nat.{ℕ, _+_, _<_, _≤_, _^_}
+use lib.IntN.{ℤ}
 use lib.ListN.{length}
+use lib.Signed.{mag}
 use mir.Syntax.{w32}
+use mir.Val.{toZ, ofZ}
 use Rattle.signed.specs.CodeLaws.{read-as}
 use Rattle.text.specs.Pieces.{comma, lineFeed}
 use Rattle.lists.specs.WrittenLaws.{written-length}
@@ -24,6 +27,14 @@ t3 e = t2 e ++ signedField (e .deviation) comma
 
 abbrev t4 : Evaluation → List ℕ
 t4 e = t3 e ++ signedField (e .correction) lineFeed
+
+-- the room and the writing of a signed field, of the number and as the code reads it
+module _ (z : ℤ) (byte : ℕ) (h : mag z < 2 ^ 31) (k : ℕ) where
+  room-read : (n : ℕ) → k + length (signedField z byte) ≤ n → k + length (signedField (toZ w32 (ofZ w32 z)) byte) ≤ n
+  room-read n r = rw (read-as w32 z h) r
+
+  put-read : (a b : List ℕ) (l : ℕ) → Put a k (signedField (toZ w32 (ofZ w32 z)) byte) l b → Put a k (signedField z byte) l b
+  put-read a b l p = rw (read-as w32 z h) at p
 
 module _ (s : tie.Start) where
   abbrev Fits : List ℕ → Type 0
@@ -56,32 +67,13 @@ start3 c = start2 (c .before .before .before .before .before)
 abbrev start4 : tie.After-put-signed-field2 → tie.Start
 start4 c = start3 (c .before .before .before .before .before)
 
+-- the room and the text after each field, in the order of the code
+put-whole-field-requires : tie.Need-put-whole-field-requires
+put-whole-field-requires c κs = fits1 (c .before .before)
+
 put1 : (c : tie.After-put-whole-field) → let s = start1 c in
     Put (s .args .out .now) (s .args .at) (t1 (s .args .e)) (c .put-whole-field .result) (c .put-whole-field .last .0)
 put1 c = c .put-whole-field .ensures
-
-put2 : (c : tie.After-put-whole-field2) → let s = start2 c in
-    Put (s .args .out .now) (s .args .at) (t2 (s .args .e)) (c .put-whole-field2 .result) (c .put-whole-field2 .last .0)
-put2 c =
-    let e = start2 c .args .e in
-    chain _ _ _ _ _ _ (t1 e) (wholeField (e .verdict) comma) (fits2 (start2 c)) (put1 (c .before .before .before .before)) (c .put-whole-field2 .ensures)
-
-put3 : (c : tie.After-put-signed-field) → let s = start3 c in
-    Put (s .args .out .now) (s .args .at) (t3 (s .args .e)) (c .put-signed-field .result) (c .put-signed-field .last .0)
-put3 c =
-    let e = start3 c .args .e in
-    chain _ _ _ _ _ _ (t2 e) (signedField (e .deviation) comma) (fits3 (start3 c)) (put2 (c .before .before .before .before .before))
-    (rw (read-as w32 (e .deviation) (c .before .struct-told .given .1 .1 .0 .1)) at (c .put-signed-field .ensures))
-
-put4 : (c : tie.After-put-signed-field2) → let s = start4 c in
-    Put (s .args .out .now) (s .args .at) (t4 (s .args .e)) (c .put-signed-field2 .result) (c .put-signed-field2 .last .0)
-put4 c =
-    let e = start4 c .args .e in
-    chain _ _ _ _ _ _ (t3 e) (signedField (e .correction) lineFeed) (fits4 (start4 c)) (put3 (c .before .before .before .before .before))
-    (rw (read-as w32 (e .correction) (c .before .struct-told2 .given .1 .1 .1 .0 .1)) at (c .put-signed-field2 .ensures))
-
-put-whole-field-requires : tie.Need-put-whole-field-requires
-put-whole-field-requires c κs = fits1 (c .before .before)
 
 put-whole-field-requires-2 : tie.Need-put-whole-field-requires-2
 put-whole-field-requires-2 c κs =
@@ -89,20 +81,40 @@ put-whole-field-requires-2 c κs =
     let s = start1 p in
     fits-next _ _ _ _ (t1 (s .args .e)) (wholeField (s .args .e .verdict) comma) (fits2 s) (put1 p)
 
+put2 : (c : tie.After-put-whole-field2) → let s = start2 c in
+    Put (s .args .out .now) (s .args .at) (t2 (s .args .e)) (c .put-whole-field2 .result) (c .put-whole-field2 .last .0)
+put2 c =
+    let e = start2 c .args .e in
+    chain _ _ _ _ _ _ (t1 e) (wholeField (e .verdict) comma) (fits2 (start2 c)) (put1 (c .before .before .before .before)) (c .put-whole-field2 .ensures)
+
 put-signed-field-requires : tie.Need-put-signed-field-requires
 put-signed-field-requires c κs =
     let p = c .before .before .before .before in
     let s = start2 p in
     let e = s .args .e in
-    rw (read-as w32 (e .deviation) (c .struct-told .given .1 .1 .0 .1)) (fits-next _ _ _ _ (t2 e) (signedField (e .deviation) comma) (fits3 s) (put2 p))
+    room-read (e .deviation) comma (c .struct-told .given .1 .1 .0 .1) _ _ (fits-next _ _ _ _ (t2 e) (signedField (e .deviation) comma) (fits3 s) (put2 p))
+
+put3 : (c : tie.After-put-signed-field) → let s = start3 c in
+    Put (s .args .out .now) (s .args .at) (t3 (s .args .e)) (c .put-signed-field .result) (c .put-signed-field .last .0)
+put3 c =
+    let e = start3 c .args .e in
+    chain _ _ _ _ _ _ (t2 e) (signedField (e .deviation) comma) (fits3 (start3 c)) (put2 (c .before .before .before .before .before))
+    (put-read (e .deviation) comma (c .before .struct-told .given .1 .1 .0 .1) _ _ _ _ (c .put-signed-field .ensures))
 
 put-signed-field-requires-2 : tie.Need-put-signed-field-requires-2
 put-signed-field-requires-2 c κs =
     let p = c .before .before .before .before in
     let s = start3 p in
     let e = s .args .e in
-    rw (read-as w32 (e .correction) (c .struct-told2 .given .1 .1 .1 .0 .1))
+    room-read (e .correction) lineFeed (c .struct-told2 .given .1 .1 .1 .0 .1) _ _
     (fits-next _ _ _ _ (t3 e) (signedField (e .correction) lineFeed) (fits4 s) (put3 p))
+
+put4 : (c : tie.After-put-signed-field2) → let s = start4 c in
+    Put (s .args .out .now) (s .args .at) (t4 (s .args .e)) (c .put-signed-field2 .result) (c .put-signed-field2 .last .0)
+put4 c =
+    let e = start4 c .args .e in
+    chain _ _ _ _ _ _ (t3 e) (signedField (e .correction) lineFeed) (fits4 (start4 c)) (put3 (c .before .before .before .before .before))
+    (put-read (e .correction) lineFeed (c .before .struct-told2 .given .1 .1 .1 .0 .1) _ _ _ _ (c .put-signed-field2 .ensures))
 
 same-length : tie.Need-same-length
 same-length c =

@@ -1,3 +1,4 @@
+-- By whether the byte is a line feed: the code's comparison decides the definition's test alike.
 use borrow.Author.Tests.{eq-eqb, ne-eqb}
 use Rattle.text.specs.Pieces.{lineFeed}
 use Rattle.job_text.proofs.ended.Statement.{statement}

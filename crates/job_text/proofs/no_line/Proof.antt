@@ -1,3 +1,4 @@
+-- The length of the line is what `find` answers for the line feed, and the letter is 0.
 use borrow.Author.Needs.{needs}
 use Rattle.job_text.proofs.no_line.Statement.{statement}
 use Rattle.job_text.proofs.no_line.Tie as tie

@@ -1,3 +1,4 @@
+-- Both numbers are read back from 64 bits as they are, so that each test is that of the range; the list's last `and true` changes nothing.
 use mathlib.Core.Path.{sym, ap, ap₂, _∙_}
 use mathlib.Core.Bool.{_&&_, and-true}
 use mir.Facts.{toZ-ofZ}

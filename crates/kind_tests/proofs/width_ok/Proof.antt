@@ -1,3 +1,4 @@
+-- The test is that of `in_range`, of the number as it was given, with the limits of the definition.
 use borrow.Author.Needs.{needs}
 use Rattle.kind_tests.proofs.width_ok.Statement.{statement}
 use Rattle.kind_tests.proofs.width_ok.Tie as tie

@@ -1,3 +1,4 @@
+-- By the code's own test, which is that of the definition.
 use Rattle.wears.proofs.side_of.Statement.{statement}
 use Rattle.wears.proofs.side_of.Tie as tie
 
