@@ -5,13 +5,11 @@ use mathlib.Core.List.{List}
 use Prim.Native.Nat.{ℕ, _≤_}
 use lib.Dec.{eqb}
 use lib.ListN.{length}
-use Rattle.text.specs.declared.Number.{Number}
-use Rattle.text.specs.declared.Number.the-variants.{Value, Malformed}
 use Rattle.text.specs.declared.Field.{Field}
 use Rattle.text.specs.declared.Field.the-variants.{Read, Wrong}
 use Rattle.text.specs.declared.Whole.{Whole}
 use Rattle.text.specs.declared.Whole.the-variants.{Digits, Bad}
-use Rattle.text.specs.Numbers.{whole, behind}
+use Rattle.text.specs.Numbers.{Number, Value, Malformed, whole, behind}
 
 -- a number of k bytes is what the field spells where the field has no more bytes
 abbrev pub spelt : Field → List ℕ → Number
