@@ -9,10 +9,12 @@ use package::arguments::Calibration;
 use package::records::Status;
 use package::refusals::DONE;
 use package::refusals::NO_SUCH_NUMBER;
-use probes::calibrate_direction;
 use probes::calibration_refusal;
+use probes::change_refusal;
+use probes::mark_place;
 use probes::place_of;
 use probes::status_answer;
+use probes::trigger_left;
 use signed::in_range;
 ghost use mathlib.Core.Path.{_≡_};
 ghost use Rattle.rules.specs.Calls.{calibrate};
@@ -34,13 +36,14 @@ fn calibrate(area: &mut [i32], a: Calibration) -> u32
     let probe = a.probe;
     let place = place_of(a.axis, a.direction);
     let trigger = number_at(&area[..], PROBES, probe, place - 1);
-    let status = status_from(number_at(&area[..], PROBES, probe, 6));
-    let c = calibrate_direction(trigger, status, place, a);
-    if c.refusal != DONE {
-        return c.refusal;
+    let change = change_refusal(trigger, a);
+    if change != DONE {
+        return change;
     }
-    put_number(area, PROBES, probe, place - 1, c.trigger);
-    put_number(area, PROBES, probe, 6, c.status as i32);
+    // read only now: what no test needs does not take up registers before them
+    let status = status_from(number_at(&area[..], PROBES, probe, 6));
+    put_number(area, PROBES, probe, place - 1, trigger_left(trigger, a));
+    put_number(area, PROBES, probe, 6, mark_place(status, place) as i32);
     DONE
 }
 
