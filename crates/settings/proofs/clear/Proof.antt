@@ -28,15 +28,6 @@ same c =
 loop-holds : tie.Need-loop-holds Inv-loop μ-loop
 loop-holds c = (omega arith, refl)
 
-mul-area : tie.Need-mul-area Inv-loop μ-loop
-mul-area c = omega arith
-
-slice-set-of-area : tie.Need-slice-set-of-area Inv-loop μ-loop
-slice-set-of-area c = omega arith
-
-add-i : tie.Need-add-i Inv-loop μ-loop
-add-i c = omega arith
-
 loop-less : tie.Need-loop-less Inv-loop μ-loop
 loop-less c = let n = same (c .before) in omega arith
 
@@ -67,4 +58,6 @@ returns c =
     (append-nil (replicate (length zs) (pos 0)))
 
 pub clear-spec : {M : Type 1} → statement M
-clear-spec = tie.close (tie.spec Inv-loop μ-loop loop-holds mul-area slice-set-of-area add-i loop-less loop-again same-length returns)
+clear-spec =
+    tie.close
+    (tie.spec Inv-loop μ-loop loop-holds (λ c. omega arith) (λ c. omega arith) (λ c. omega arith) loop-less loop-again same-length returns)
