@@ -5,6 +5,7 @@ use area::OFFSETS;
 use area::TOOLS;
 use area::WRONG_AREA;
 use layout::put_record;
+use layout::write_numbers;
 use package::limits::OFFSET_COUNT;
 use package::limits::OFFSET_LIMIT;
 use package::limits::TOOL_COUNT;
@@ -17,21 +18,8 @@ use package::refusals::NO_SUCH_NUMBER;
 use package::refusals::OUTSIDE_RANGE;
 use signed::in_range;
 ghost use mathlib.Core.Path.{_≡_};
-ghost use lib.IntN.{pos};
-ghost use lib.ListN.{length, replicate};
 ghost use Rattle.rules.specs.Calls.{setEmpirical, setWear, setOffset};
 ghost use Rattle.area.specs.Called.{unmeasured, called, freshCalled};
-
-// Writes 0 to every number.
-fn clear(area: &mut [i32])
-    ensures { λ _. ⌜ now (area .exit) ≡ replicate (length (now (area .entry))) (pos 0) ⌝ }
-{
-    let mut i: usize = 0;
-    while i < area.len() {
-        area[i] = 0;
-        i += 1;
-    }
-}
 
 // Writes the fresh package, every record 0.
 pub fn fresh(area: &mut [i32]) -> u32
@@ -40,7 +28,8 @@ pub fn fresh(area: &mut [i32]) -> u32
     if area.len() != AREA {
         return WRONG_AREA;
     }
-    clear(area);
+    let zeros = [0i32; AREA];
+    write_numbers(area, 0, &zeros);
     DONE
 }
 

@@ -1,4 +1,4 @@
--- By cases: a wrong area, arguments refused, the change refused by one of its two rules, or none; then the new trigger and status are put in the probe's record.
+-- By cases: a wrong area, arguments refused, the change refused by one of its rules, or none; then the new trigger and status are put in the record.
 use mathlib.Core.Path.{_≡_, sym, ap, ap₂, _∙_}
 use mathlib.Core.Bool.{Bool, true, false, not}
 use mathlib.Core.List.{List}
@@ -96,7 +96,8 @@ read-trigger c = c .before .before .before .before
 near : (c : tie.After-struct-told4) (below : Bool) →
     let p = read-trigger c .before .before in
     let a = start p .args .a in
-    ltZ (toZ w64 (ofZ w64 (a .tsa))) (toZ w64 (ofZ w64 (c .before .before .change-size .result))) ≡ below → leZ (size (change (stored p) a)) (a .tsa) ≡ not below
+    ltZ (toZ w64 (ofZ w64 (a .tsa))) (toZ w64 (ofZ w64 (c .before .before .change-size .result))) ≡ below
+    → leZ (size (change (stored p) a)) (a .tsa) ≡ not below
 near c below e =
     let d = c .before .before in
     let p = read-trigger c .before .before in

@@ -72,4 +72,5 @@ pub read-values-spec : {M : Type 1} → statement M
 read-values-spec =
     tie.close
     (tie.spec Inv-loop μ-loop loop-holds (λ c. omega (arith, inside (c .before .before))) (λ c. omega (arith, inside (c .before .before)))
-    (λ c. omega (arith, inside (c .before .before))) (λ c κs. tt) (λ c. omega arith) (λ c. omega arith) (λ c. omega arith) (λ c. omega arith) loop-again returns)
+    (λ c. omega (arith, inside (c .before .before))) (λ c κs. tt) (λ c. omega arith) (λ c. omega arith) (λ c. omega arith) (λ c. omega arith)
+    loop-again returns)

@@ -43,9 +43,9 @@ values : (c : tie.After-in-range4) →
     (c .before .before .in-range2 .result && c .before .in-range3 .result && c .in-range4 .result)
     ≡ (offsetRange (start c .args .v1) && offsetRange (start c .args .v2) && offsetRange (start c .args .v3))
 values c =
-    ap₂ _&&_
-    (ap₂ _&&_ (tested offsetRange (start c .fits .v1) (c .before .before .in-range2 .ensures)) (tested offsetRange (start c .fits .v2) (c .before .in-range3 .ensures)))
-    (tested offsetRange (start c .fits .v3) (c .in-range4 .ensures))
+    let f = start c .fits in
+    ap₂ _&&_ (ap₂ _&&_ (tested offsetRange (f .v1) (c .before .before .in-range2 .ensures)) (tested offsetRange (f .v2) (c .before .in-range3 .ensures)))
+    (tested offsetRange (f .v3) (c .in-range4 .ensures))
 
 returns-3 : tie.Need-returns-3
 returns-3 c =
@@ -82,4 +82,5 @@ pub set-offset-spec : {M : Type 1} → statement M
 set-offset-spec =
     tie.close
     (tie.spec returns (λ c κs. search needs) returns-2 (λ c. search needs) (λ c κs. search needs) (λ c. search needs) (λ c κs. search needs)
-    (λ c. search needs) (λ c κs. search needs) returns-3 (λ c. search (kept c)) (λ c. search (kept c)) (λ c. search (kept c)) (λ c. search needs) put-record-requires (λ c. search needs) returns-4)
+    (λ c. search needs) (λ c κs. search needs) returns-3 (λ c. search (kept c)) (λ c. search (kept c)) (λ c. search (kept c))
+    (λ c. search needs) put-record-requires (λ c. search needs) returns-4)

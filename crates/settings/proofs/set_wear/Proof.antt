@@ -55,7 +55,9 @@ kept : (c : tie.Else3) → let s = start (c .before) in Cast w32 (s .args .radiu
 kept c =
     let s = start (c .before) in
     let t = wears-passed (s .args .tool) (s .args .radius) (s .args .length) (none c) in
-    (casts w32 (minus 2000000) (pos 2000000) (s .fits .radius) tt tt (t .radius-in), casts w32 (minus 2000000) (pos 2000000) (s .fits .length) tt tt (t .length-in))
+    let lo = minus 2000000 in
+    let hi = pos 2000000 in
+    (casts w32 lo hi (s .fits .radius) tt tt (t .radius-in), casts w32 lo hi (s .fits .length) tt tt (t .length-in))
 
 put-record-requires : tie.Need-put-record-requires
 put-record-requires c κs =
