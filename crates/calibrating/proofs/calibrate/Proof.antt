@@ -166,7 +166,9 @@ unfolding statusLeft
 small c =
     let p = placed (found (left c .before)) in
     let t = arguments (start p .args .a) (accepted (checked p)) in
-    rw (c .mark-place .ensures, place-is p) (status-left (start p .args .a) (t .axis) (t .direction) (left c .before .before .status-from .result))
+    let status = left c .before .before .status-from .result in
+    let e = c .mark-place .ensures ∙ ap (mark (status % 64)) (place-is p) in
+    omega (arith, e, status-left (start p .args .a) (t .axis) (t .direction) status)
 
 cast-put-number : tie.Need-cast-put-number
 cast-put-number c = omega (arith, small c)
