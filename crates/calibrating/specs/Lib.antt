@@ -1,3 +1,2 @@
 pub mod StatusRead
-pub mod StatusLaws
 pub mod CalibrateLaws

@@ -31,7 +31,7 @@ read-at s area i w h =
     let e : s .at + i ≡ place s i + 0 = rw w (omega arith) in
     ap (λ (k : ℕ). valueFrom (getD area k (pos 0))) e
     ∙ ap valueFrom (sym (number-read s area i 0 (pos 0) (omega arith)))
-    ∙ sym (record-read (recordFrom means) s area i h)
+    ∙ sym (record-read s area (recordFrom means) i h)
 
 module _ (c : tie.At-loop Inv-loop μ-loop) where
   abbrev section : Section
@@ -48,30 +48,6 @@ module _ (c : tie.At-loop Inv-loop μ-loop) where
 
 loop-holds : tie.Need-loop-holds Inv-loop μ-loop
 loop-holds c = (omega arith, refl)
-
-add-value-from : tie.Need-add-value-from Inv-loop μ-loop
-add-value-from c = let h = inside (c .before .before) in omega arith
-
-mul-value-from : tie.Need-mul-value-from Inv-loop μ-loop
-mul-value-from c = let h = inside (c .before .before) in omega arith
-
-shared-slice-copy-out-value-from : tie.Need-shared-slice-copy-out-value-from Inv-loop μ-loop
-shared-slice-copy-out-value-from c = let h = inside (c .before .before) in omega arith
-
-value-from-requires : tie.Need-value-from-requires Inv-loop μ-loop
-value-from-requires c κs = tt
-
-mul-values : tie.Need-mul-values Inv-loop μ-loop
-mul-values c = omega arith
-
-array-set-from-values : tie.Need-array-set-from-values Inv-loop μ-loop
-array-set-from-values c = omega arith
-
-add-i : tie.Need-add-i Inv-loop μ-loop
-add-i c = omega arith
-
-loop-less : tie.Need-loop-less Inv-loop μ-loop
-loop-less c = omega arith
 
 loop-again : tie.Need-loop-again Inv-loop μ-loop
 loop-again c =
@@ -95,5 +71,6 @@ returns c =
 pub read-values-spec : {M : Type 1} → statement M
 read-values-spec =
     tie.close
-    (tie.spec Inv-loop μ-loop loop-holds add-value-from mul-value-from shared-slice-copy-out-value-from value-from-requires mul-values array-set-from-values
-    add-i loop-less loop-again returns)
+    (tie.spec Inv-loop μ-loop loop-holds (λ c. omega (arith, inside (c .before .before))) (λ c. omega (arith, inside (c .before .before)))
+    (λ c. omega (arith, inside (c .before .before))) (λ c κs. tt) (λ c. omega arith) (λ c. omega arith) (λ c. omega arith) (λ c. omega arith)
+    loop-again returns)

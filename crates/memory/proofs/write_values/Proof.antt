@@ -37,44 +37,11 @@ module _ (c : tie.At-loop Inv-loop μ-loop) where
 loop-holds : tie.Need-loop-holds Inv-loop μ-loop
 loop-holds c = (omega arith, paste-zero (c .before .args .area .now) (c .before .args .at) (words (c .before .args .bytes .now)))
 
-mul-decode : tie.Need-mul-decode Inv-loop μ-loop
-mul-decode c = omega arith
-
-shared-slice-read-decode : tie.Need-shared-slice-read-decode Inv-loop μ-loop
-shared-slice-read-decode c = omega arith
-
-mul-decode-2 : tie.Need-mul-decode-2 Inv-loop μ-loop
-mul-decode-2 c = omega arith
-
-add-decode : tie.Need-add-decode Inv-loop μ-loop
-add-decode c = omega arith
-
-shared-slice-read-decode-2 : tie.Need-shared-slice-read-decode-2 Inv-loop μ-loop
-shared-slice-read-decode-2 c = omega arith
-
-decode-requires : tie.Need-decode-requires Inv-loop μ-loop
-decode-requires c κs = tt
-
 kept : (c : tie.After-decode Inv-loop μ-loop) → Widened w16 w32 (c .decode .result)
 kept c = widened w16 w32 (c .decode .result) tt (c .decode .ok)
 
-cast-area : tie.Need-cast-area Inv-loop μ-loop
-cast-area c = kept c .fits
-
-add-t7 : tie.Need-add-t7 Inv-loop μ-loop
-add-t7 c = omega arith
-
-mul-t10 : tie.Need-mul-t10 Inv-loop μ-loop
-mul-t10 c = omega arith
-
 slice-set-from-area : tie.Need-slice-set-from-area Inv-loop μ-loop
 slice-set-from-area c = let l = c .before .before .before .before in omega (arith, same l, l .before .before .pre .0)
-
-add-i : tie.Need-add-i Inv-loop μ-loop
-add-i c = omega arith
-
-loop-less : tie.Need-loop-less Inv-loop μ-loop
-loop-less c = omega arith
 
 loop-again : tie.Need-loop-again Inv-loop μ-loop
 loop-again c =
@@ -99,5 +66,5 @@ returns c =
 pub write-values-spec : {M : Type 1} → statement M
 write-values-spec =
     tie.close
-    (tie.spec Inv-loop μ-loop loop-holds mul-decode shared-slice-read-decode mul-decode-2 add-decode shared-slice-read-decode-2 decode-requires cast-area
-    add-t7 mul-t10 slice-set-from-area add-i loop-less loop-again same-length returns)
+    (tie.spec Inv-loop μ-loop loop-holds (λ c. omega arith) (λ c. omega arith) (λ c. omega arith) (λ c. omega arith) (λ c. omega arith) (λ c κs. tt)
+    (λ c. kept c .fits) (λ c. omega arith) (λ c. omega arith) slice-set-from-area (λ c. omega arith) (λ c. omega arith) loop-again same-length returns)

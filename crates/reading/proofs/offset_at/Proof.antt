@@ -21,14 +21,8 @@ returns c =
     )
     (held-at (known s))
 
-number-at-requires : tie.Need-number-at-requires
-number-at-requires c κs = asked (known c) 0 (omega arith)
-
-number-at-requires-2 : tie.Need-number-at-requires-2
-number-at-requires-2 c κs = asked (known (c .before)) 1 (omega arith)
-
-number-at-requires-3 : tie.Need-number-at-requires-3
-number-at-requires-3 c κs = asked (known (c .before .before)) 2 (omega arith)
-
 pub offset-at-spec : {M : Type 1} → statement M
-offset-at-spec = tie.close (tie.spec number-at-requires number-at-requires-2 number-at-requires-3 returns)
+offset-at-spec =
+    tie.close
+    (tie.spec (λ c κs. asked (known c) 0 (omega arith)) (λ c κs. asked (known (c .before)) 1 (omega arith))
+    (λ c κs. asked (known (c .before .before)) 2 (omega arith)) returns)

@@ -33,29 +33,11 @@ returns c =
     )
     (held-at (known s))
 
-number-at-requires : tie.Need-number-at-requires
-number-at-requires c κs = asked (known c) 0 (omega arith)
-
-number-at-requires-2 : tie.Need-number-at-requires-2
-number-at-requires-2 c κs = asked (known (c .before)) 1 (omega arith)
-
-number-at-requires-3 : tie.Need-number-at-requires-3
-number-at-requires-3 c κs = asked (known (c .before .before)) 2 (omega arith)
-
-number-at-requires-4 : tie.Need-number-at-requires-4
-number-at-requires-4 c κs = asked (known (c .before .before .before)) 3 (omega arith)
-
-number-at-requires-5 : tie.Need-number-at-requires-5
-number-at-requires-5 c κs = asked (known (c .before .before .before .before)) 4 (omega arith)
-
-number-at-requires-6 : tie.Need-number-at-requires-6
-number-at-requires-6 c κs = asked (known (c .before .before .before .before .before)) 5 (omega arith)
-
-number-at-requires-7 : tie.Need-number-at-requires-7
-number-at-requires-7 c κs = asked (known (c .before .before .before .before .before .before)) 6 (omega arith)
-
 pub probe-at-spec : {M : Type 1} → statement M
 probe-at-spec =
     tie.close
-    (tie.spec number-at-requires number-at-requires-2 number-at-requires-3 number-at-requires-4 number-at-requires-5 number-at-requires-6
-    number-at-requires-7 (λ c κs. search needs) returns)
+    (tie.spec (λ c κs. asked (known c) 0 (omega arith)) (λ c κs. asked (known (c .before)) 1 (omega arith))
+    (λ c κs. asked (known (c .before .before)) 2 (omega arith)) (λ c κs. asked (known (c .before .before .before)) 3 (omega arith))
+    (λ c κs. asked (known (c .before .before .before .before)) 4 (omega arith))
+    (λ c κs. asked (known (c .before .before .before .before .before)) 5 (omega arith))
+    (λ c κs. asked (known (c .before .before .before .before .before .before)) 6 (omega arith)) (λ c κs. search needs) returns)

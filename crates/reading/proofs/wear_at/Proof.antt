@@ -19,11 +19,7 @@ returns c =
     )
     (held-at (known s))
 
-number-at-requires : tie.Need-number-at-requires
-number-at-requires c κs = asked (known c) 0 (omega arith)
-
-number-at-requires-2 : tie.Need-number-at-requires-2
-number-at-requires-2 c κs = asked (known (c .before)) 1 (omega arith)
-
 pub wear-at-spec : {M : Type 1} → statement M
-wear-at-spec = tie.close (tie.spec number-at-requires number-at-requires-2 returns)
+wear-at-spec =
+    tie.close
+    (tie.spec (λ c κs. asked (known c) 0 (omega arith)) (λ c κs. asked (known (c .before)) 1 (omega arith)) returns)
