@@ -110,9 +110,16 @@ impl Error for Refusal {}
 pub(crate) fn outcome(number: u32) -> Result<(), Refusal> {
     match number {
         0 => Ok(()),
-        // the library's contract has no other numbers
-        _ => Err(Refusal::from_number(number).expect("a refusal of this library")),
+        _ => Err(refused(number)),
     }
+}
+
+/// Apart from the calls, so that a caller's loop has nothing of it.
+#[cold]
+#[inline(never)]
+fn refused(number: u32) -> Refusal {
+    // the library's contract has no other numbers
+    Refusal::from_number(number).expect("a refusal of this library")
 }
 
 #[cfg(test)]

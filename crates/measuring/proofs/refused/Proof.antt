@@ -1,5 +1,5 @@
 -- With no room the array stays; else the numbers of the refusal are written, which is what the array is after it.
-use mathlib.Core.Path.{_≡_, sym, ap, _∙_}
+use mathlib.Core.Path.{_≡_, ap, _∙_}
 use mathlib.Core.Bool.{true}
 use Prim.Native.Nat.{_+_}
 use lib.Dec.{leb}
