@@ -55,9 +55,6 @@ module _ (k : tie.After-kind-of) where
   kind-is : k .kind-of .result ≡ toolKindOf (start .args .a)
   kind-is = rw (read (start .args .a .probing .kind) (k .before .struct-told .given .0 .1)) at (k .kind-of .ensures)
 
-tool-refusal-requires : tie.Need-tool-refusal-requires
-tool-refusal-requires c κs = kind-is c
-
 number-stated : (c : tie.Then2) → let s = start (c .before .before) in
     c .before .tool-refusal .result ≡ first (toolRules (toolRead (held (s .args .area .now)) (s .args .a)) (s .args .a))
 number-stated c = by-arguments (way (start (c .before .before))) (c .before .tool-refusal .ensures) (c .if2 .taken)
@@ -157,9 +154,6 @@ put-tool-requires c κs =
       ),
     )
 
-abbrev told : tie.After-put-tool-numbers → tie.After-struct-told3
-told c = c .before .before .before .before
-
 put-tool-numbers-requires : tie.Need-put-tool-numbers-requires
 put-tool-numbers-requires c κs =
     let t = at-tests (c .before .before .before) in
@@ -187,6 +181,6 @@ returns-4 c =
 pub evaluate-tool-spec : {M : Type 1} → statement M
 evaluate-tool-spec =
     tie.close
-    (tie.spec (λ c κs. search needs) returns (λ c κs. search needs) tool-refusal-requires refused-requires (λ c. search needs) returns-2
+    (tie.spec (λ c κs. search needs) returns (λ c κs. search needs) (λ c κs. kind-is c) refused-requires (λ c. search needs) returns-2
     tool-records-requires tool-found-requires tool-tests-requires (λ c κs. search needs) refused-requires-2 (λ c. search needs) (λ c. search needs) returns-3
     wears-left-requires put-tool-requires put-tool-numbers-requires (λ c κs. search needs) (λ c. search needs) (λ c. search needs) returns-4)

@@ -17,9 +17,6 @@ use Rattle.tool_measuring.proofs.put_tool.Tie as tie
 value : (s : tie.Start) → Cast w32 (s .args .mean)
 value s = casts w32 (minus 32768) (pos 32767) (s .fits .mean) tt tt (s .pre .1 .1)
 
-cast-t7 : tie.Need-cast-t7
-cast-t7 c = value c .fits
-
 put-record-requires : tie.Need-put-record-requires
 put-record-requires c κs =
     let s = c .before .before .before in
@@ -54,4 +51,4 @@ returns c =
     wear ∙ ap (λ (zs : List ℤ). renewed zs (write tools (a .tool) x)) mean
 
 pub put-tool-spec : {M : Type 1} → statement M
-put-tool-spec = tie.close (tie.spec cast-t7 (λ c. search needs) put-record-requires (λ c. search needs) put-record-requires-2 (λ c. search needs) returns)
+put-tool-spec = tie.close (tie.spec (λ c. value c .fits) (λ c. search needs) put-record-requires (λ c. search needs) put-record-requires-2 (λ c. search needs) returns)

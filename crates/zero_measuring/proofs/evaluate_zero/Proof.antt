@@ -42,9 +42,6 @@ module _ (k : tie.After-zero-kind-of) where
   kind-is : k .zero-kind-of .result ≡ zeroKindOf (start .args .a)
   kind-is = rw (read (start .args .a .probing .kind) (k .before .struct-told .given .0 .1)) at (k .zero-kind-of .ensures)
 
-zero-refusal-requires : tie.Need-zero-refusal-requires
-zero-refusal-requires c κs = kind-is c
-
 number-stated : (c : tie.Then2) → let s = start (c .before .before) in
     c .before .zero-refusal .result ≡ first (zeroRules (zeroRead (held (s .args .area .now)) (s .args .a)) (s .args .a))
 number-stated c = by-arguments (way (start (c .before .before))) (c .before .zero-refusal .ensures) (c .if2 .taken)
@@ -91,9 +88,6 @@ module _ (c : tie.After-sizes-of) where
 
   sizes-are : c .sizes-of .result ≡ zeroSizes (zeroRead (held (at-start .args .area .now)) (at-start .args .a)) (at-start .args .a)
   sizes-are = found .sizes ∙ ap (λ (r : ZeroRecords). zeroSizes r (at-start .args .a)) (at-records .zero-records .ensures)
-
-zero-tests-requires : tie.Need-zero-tests-requires
-zero-tests-requires c κs = found c
 
 module _ (c : tie.After-records-refusal) where
   abbrev at-sizes : tie.After-sizes-of
@@ -166,6 +160,6 @@ returns-4 c =
 pub evaluate-zero-spec : {M : Type 1} → statement M
 evaluate-zero-spec =
     tie.close
-    (tie.spec (λ c κs. search needs) returns (λ c κs. search needs) zero-refusal-requires refused-requires (λ c. search needs) returns-2
-    zero-records-requires sizes-of-requires zero-tests-requires (λ c κs. search needs) refused-requires-2 (λ c. search needs) (λ c. search needs) returns-3
+    (tie.spec (λ c κs. search needs) returns (λ c κs. search needs) (λ c κs. kind-is c) refused-requires (λ c. search needs) returns-2
+    zero-records-requires sizes-of-requires (λ c κs. found c) (λ c κs. search needs) refused-requires-2 (λ c. search needs) (λ c. search needs) returns-3
     offset-left-requires put-zero-requires put-zero-numbers-requires zero-evaluation-requires (λ c. search needs) (λ c. search needs) returns-4)
