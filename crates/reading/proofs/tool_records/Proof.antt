@@ -1,10 +1,12 @@
 -- Each record's number is in range by the numbers' rules, so that each call reads the record that the area holds under it.
-use mathlib.Core.Path.{_∙_}
+use mathlib.Core.Path.{_≡_, _∙_}
+use mathlib.Core.Bool.{true}
 use native.Mathlib.Omega.{arith}
-use mir.Syntax.{w16}
+use mir.Syntax.{w16, w64}
+use mir.Val.{toZ, ofZ}
 use Rattle.signed.specs.CodeLaws.{read, read-as}
 use mir.Facts.{toZ-ofZ}
-use Rattle.rules.specs.Stores.{empiricals, means}
+use Rattle.rules.specs.Stores.{toolNumber, empiricals, means}
 use Rattle.rules.specs.Tool.{toolKindOf}
 use Rattle.kinds.specs.KindLaws.{probe-number}
 use Rattle.reading.proofs.Laws.{Known, held-at}
@@ -30,7 +32,9 @@ value-at-requires-2 c κs =
 wear-at-requires : tie.Need-wear-at-requires
 wear-at-requires c κs =
     let s = c .before .before .before .before .before .before .before .before in
-    (s .pre .0, rw (read (s .args .a .tool) (c .struct-told4 .given .1 .1 .0 .1)) (s .pre .1 .tool))
+    let n = s .args .a .tool in
+    let tool : toolNumber (toZ w64 (ofZ w64 n)) ≡ true = rw (read n (c .struct-told4 .given .1 .1 .0 .1)) (s .pre .1 .tool) in
+    (s .pre .0, tool)
 
 returns : tie.Need-returns
 returns c =
