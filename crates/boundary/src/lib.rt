@@ -1,7 +1,7 @@
 // The calls for C: each hands on to the call in place, on the area that the caller lends.
 use arguments::tool_of;
 use arguments::zero_of;
-use calibrating::calibrate;
+use calibrating::calibrate_by;
 use calibrating::probe_status;
 use jobs::Ran;
 use jobs::run_job;
@@ -12,7 +12,6 @@ use measuring::lent_refusal;
 use measuring::not_decided;
 use memory::load;
 use memory::save;
-use package::arguments::Calibration;
 use package::records::Status;
 use package::refusals::DONE;
 use settings::fresh;
@@ -87,16 +86,7 @@ pub extern "C" fn mezhtolik_calibrate(
 ) -> u32
     ensures { λ r. ⌜ unmeasured r (now (area .exit)) ≡ called (now (area .entry)) (calibrate (calibration probe axis direction setpoint raw tzl tsa)) ⌝ }
 {
-    let a = Calibration {
-        probe,
-        axis,
-        direction,
-        setpoint,
-        raw,
-        tzl,
-        tsa,
-    };
-    calibrate(area, a)
+    calibrate_by(area, probe, axis, direction, setpoint, raw, tzl, tsa)
 }
 
 // The bits of a probe's status and the number of directions calibrated.

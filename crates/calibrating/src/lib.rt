@@ -23,10 +23,11 @@ use signed::in_range;
 ghost use mathlib.Core.Path.{_≡_};
 ghost use Rattle.rules.specs.Calls.{calibrate};
 ghost use Rattle.area.specs.Called.{unmeasured, called};
+ghost use Rattle.rules.specs.Calibration.{calibration};
 ghost use Rattle.calibrating.specs.StatusRead.{noStatus, statusCalled};
 
 // Calibrates one direction of a probe.
-pub fn calibrate(area: &mut [i32], a: Calibration) -> u32
+fn calibrate(area: &mut [i32], a: Calibration) -> u32
     ensures { λ r. ⌜ unmeasured r (now (area .exit)) ≡ called (now (area .entry)) (calibrate a) ⌝ }
 {
     if area.len() != AREA {
@@ -52,6 +53,31 @@ pub fn calibrate(area: &mut [i32], a: Calibration) -> u32
     put_number(area, PROBES, probe, place - 1, trigger_left(trigger, a));
     put_number(area, PROBES, probe, 6, mark_place(status, place) as i32);
     DONE
+}
+
+// Calibrates one direction of a probe, by numbers: so a caller that has them makes no struct.
+pub fn calibrate_by(
+    area: &mut [i32],
+    probe: i64,
+    axis: i64,
+    direction: i64,
+    setpoint: i64,
+    raw: i64,
+    tzl: i64,
+    tsa: i64,
+) -> u32
+    ensures { λ r. ⌜ unmeasured r (now (area .exit)) ≡ called (now (area .entry)) (calibrate (calibration probe axis direction setpoint raw tzl tsa)) ⌝ }
+{
+    let a = Calibration {
+        probe,
+        axis,
+        direction,
+        setpoint,
+        raw,
+        tzl,
+        tsa,
+    };
+    calibrate(area, a)
 }
 
 // A status read that is refused.

@@ -12,7 +12,7 @@ returns c = let s = c .before .before .before in rw (
   toZ-ofZ (s .fits .raw),
   toZ-ofZ (s .fits .tzl),
   toZ-ofZ (s .fits .tsa),
-) at (c .before .calibrate .ensures)
+) at (c .before .calibrate-by .ensures)
 
 pub mezhtolik-calibrate-spec : {M : Type 1} → statement M
 mezhtolik-calibrate-spec = tie.close (tie.spec (λ c κs. search needs) (λ c. search needs) returns)
