@@ -6,10 +6,9 @@ use calibrating::probe_status;
 use jobs::Ran;
 use jobs::run_job;
 use measuring::Decided;
-use measuring::Lent;
 use measuring::decided_by;
 use measuring::lent_refusal;
-use measuring::not_decided;
+use measuring::not_answered;
 use memory::load;
 use memory::save;
 use package::records::Status;
@@ -107,15 +106,15 @@ pub extern "C" fn mezhtolik_measure_tool(
 ) -> Decided
     ensures { λ r. ⌜ reply r (now (area .exit)) (now (results .exit)) ≡ toolExported (now (area .entry)) (now (numbers .entry)) (now (results .entry)) place ⌝ }
 {
-    let lent = Lent {
-        area: area.len(),
-        numbers: numbers.len(),
-        array: results.len(),
+    let refusal = lent_refusal(
+        TOOL_NUMBERS,
+        area.len(),
+        numbers.len(),
+        results.len(),
         place,
-    };
-    let refusal = lent_refusal(lent, TOOL_NUMBERS);
+    );
     if refusal != DONE {
-        return not_decided(refusal);
+        return decided_by(not_answered(refusal));
     }
     decided_by(evaluate_tool(area, tool_of(numbers), results, place))
 }
@@ -130,15 +129,15 @@ pub extern "C" fn mezhtolik_measure_zero(
 ) -> Decided
     ensures { λ r. ⌜ reply r (now (area .exit)) (now (results .exit)) ≡ zeroExported (now (area .entry)) (now (numbers .entry)) (now (results .entry)) place ⌝ }
 {
-    let lent = Lent {
-        area: area.len(),
-        numbers: numbers.len(),
-        array: results.len(),
+    let refusal = lent_refusal(
+        ZERO_NUMBERS,
+        area.len(),
+        numbers.len(),
+        results.len(),
         place,
-    };
-    let refusal = lent_refusal(lent, ZERO_NUMBERS);
+    );
     if refusal != DONE {
-        return not_decided(refusal);
+        return decided_by(not_answered(refusal));
     }
     decided_by(evaluate_zero(area, zero_of(numbers), results, place))
 }

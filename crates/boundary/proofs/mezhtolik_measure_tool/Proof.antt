@@ -1,11 +1,12 @@
 -- What is lent turns it away, or it is handed on: both by the laws of either way of measuring.
 use mathlib.Core.Path.{_≡_, sym, ap, _∙_}
+use lib.ListN.{length}
 use native.Mathlib.Omega.{arith}
 use borrow.Author.Needs.{needs}
 use Rattle.package.specs.declared.arguments.ToolMeasurement.{ToolMeasurement}
 use Rattle.arguments.specs.Arguments.{toolOf}
 use Rattle.rules.specs.Refusals.{first}
-use Rattle.measuring.specs.Reply.{lengths, lentRules, toolMeasured}
+use Rattle.measuring.specs.Reply.{lentRules, toolMeasured}
 use Rattle.measuring.specs.ReplyLaws.{Way, toolWay, turned-away, as-many, handed-on}
 use Rattle.boundary.proofs.mezhtolik_measure_tool.Statement.{statement}
 use Rattle.boundary.proofs.mezhtolik_measure_tool.Tie as tie
@@ -15,13 +16,15 @@ way s = toolWay (s .args .area .now) (s .args .results .now) (s .args .place) (t
 
 returns : tie.Need-returns
 returns c =
-    let l = c .before .before in
+    let n = c .before in
+    let l = n .before .before in
     let s = l .before in
-    rw (c .not-decided .ensures) (turned-away (way s) (s .args .numbers .now) 21 (l .lent-refusal .ensures) (c .before .if1 .taken))
+    rw (c .decided-by .ensures, n .not-answered .ensures .0, n .not-answered .ensures .1)
+    (turned-away (way s) (s .args .numbers .now) 21 (l .lent-refusal .ensures) (n .before .if1 .taken))
 
 -- nothing of what is lent refuses it
 none : (c : tie.Else1) → let s = c .before .before in
-    first (lentRules (lengths (s .args .area .now) (s .args .numbers .now) (s .args .results .now) (s .args .place)) 21) ≡ 0
+    first (lentRules 21 (length (s .args .area .now)) (length (s .args .numbers .now)) (length (s .args .results .now)) (s .args .place)) ≡ 0
 none c = sym (c .before .lent-refusal .ensures) ∙ c .if1 .left
 
 tool-of-requires : tie.Need-tool-of-requires
@@ -35,10 +38,10 @@ returns-2 c =
     let s = e .before .before in
     let measured = m .evaluate-tool .ensures
     ∙ ap (λ (a : ToolMeasurement). toolMeasured (s .args .area .now) a (s .args .results .now) (s .args .place)) (o .tool-of .ensures) in
-    rw (c .decided-by .ensures) (handed-on (way s) (s .args .numbers .now) 21 (none e) measured)
+    rw (c .decided-by2 .ensures) (handed-on (way s) (s .args .numbers .now) 21 (none e) measured)
 
 pub mezhtolik-measure-tool-spec : {M : Type 1} → statement M
 mezhtolik-measure-tool-spec =
     tie.close
-    (tie.spec (λ c κs. search needs) (λ c κs. search needs) returns tool-of-requires (λ c κs. search needs) (λ c κs. search needs) (λ c. search needs)
+    (tie.spec (λ c κs. search needs) (λ c κs. search needs) (λ c κs. search needs) returns tool-of-requires (λ c κs. search needs) (λ c κs. search needs) (λ c. search needs)
     (λ c. search needs) returns-2)

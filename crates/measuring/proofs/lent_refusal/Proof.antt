@@ -7,37 +7,26 @@ use Rattle.measuring.proofs.lent_refusal.Statement.{statement}
 use Rattle.measuring.proofs.lent_refusal.Tie as tie
 
 returns : tie.Need-returns
-returns c = rw (ne-eqb (c .before .before .args .l .area) areaLength (c .if1 .taken))
+returns c = rw (ne-eqb (c .before .args .area) areaLength (c .if1 .taken))
 
 returns-2 : tie.Need-returns-2
 returns-2 c =
-    let e = c .before .before in
-    let s = e .before .before in
-    rw (eq-eqb (s .args .l .area) areaLength (e .if1 .left), ne-eqb (s .args .l .numbers) (s .args .count) (c .if2 .taken))
+    let s = c .before .before .args in
+    rw (eq-eqb (s .area) areaLength (c .before .if1 .left), ne-eqb (s .numbers) (s .count) (c .if2 .taken))
 
 returns-3 : tie.Need-returns-3
 returns-3 c =
     let r = c .before in
     let g = r .before in
-    let e = g .before .before in
-    let s = e .before .before in
-    rw (
-      eq-eqb (s .args .l .area) areaLength (e .if1 .left),
-      eq-eqb (s .args .l .numbers) (s .args .count) (g .if2 .left),
-      failed (r .has-room .ensures) (c .if3 .taken),
-    )
+    let s = g .before .before .args in
+    rw (eq-eqb (s .area) areaLength (g .before .if1 .left), eq-eqb (s .numbers) (s .count) (g .if2 .left), failed (r .has-room .ensures) (c .if3 .taken))
 
 returns-4 : tie.Need-returns-4
 returns-4 c =
     let r = c .before in
     let g = r .before in
-    let e = g .before .before in
-    let s = e .before .before in
-    rw (
-      eq-eqb (s .args .l .area) areaLength (e .if1 .left),
-      eq-eqb (s .args .l .numbers) (s .args .count) (g .if2 .left),
-      passed (r .has-room .ensures) (c .if3 .left),
-    )
+    let s = g .before .before .args in
+    rw (eq-eqb (s .area) areaLength (g .before .if1 .left), eq-eqb (s .numbers) (s .count) (g .if2 .left), passed (r .has-room .ensures) (c .if3 .left))
 
 pub lent-refusal-spec : {M : Type 1} → statement M
 lent-refusal-spec = tie.close (tie.spec returns returns-2 (λ c κs. search needs) returns-3 returns-4)

@@ -1,3 +1,4 @@
+-- The number of the record is in range, so that the number read is that of the section, brought into the type.
 use mathlib.Core.Path.{ap, _∙_}
 use mir.Syntax.{w16, w32}
 use mir.Facts.{toZ-ofZ}
