@@ -1,3 +1,4 @@
+-- The record stands before the end of its section, and every section before the end of the area.
 use Prim.Native.Nat.{_+_, _*_, _≤_}
 use native.Mathlib.Omega.{arith}
 use borrow.Author.Needs.{needs}
