@@ -6,17 +6,10 @@ use area::TOOLS;
 use area::WRONG_AREA;
 use layout::put_record;
 use layout::write_numbers;
-use package::limits::OFFSET_COUNT;
-use package::limits::OFFSET_LIMIT;
-use package::limits::TOOL_COUNT;
-use package::limits::VALUE_COUNT;
-use package::limits::VALUE_GREATEST;
-use package::limits::VALUE_LEAST;
-use package::limits::WEAR_LIMIT;
 use package::refusals::DONE;
-use package::refusals::NO_SUCH_NUMBER;
-use package::refusals::OUTSIDE_RANGE;
-use signed::in_range;
+use records::empirical_refusal;
+use records::offset_refusal;
+use records::wear_refusal;
 ghost use mathlib.Core.Path.{_≡_};
 ghost use Rattle.rules.specs.Calls.{setEmpirical, setWear, setOffset};
 ghost use Rattle.area.specs.Called.{unmeasured, called, freshCalled};
@@ -40,11 +33,9 @@ pub fn set_empirical(area: &mut [i32], ev: i64, value: i64) -> u32
     if area.len() != AREA {
         return WRONG_AREA;
     }
-    if !in_range(ev, 1, VALUE_COUNT) {
-        return NO_SUCH_NUMBER;
-    }
-    if !in_range(value, VALUE_LEAST, VALUE_GREATEST) {
-        return OUTSIDE_RANGE;
+    let refusal = empirical_refusal(ev, value);
+    if refusal != DONE {
+        return refusal;
     }
     let numbers = [value as i32];
     put_record(area, EMPIRICALS, ev, &numbers);
@@ -58,11 +49,9 @@ pub fn set_wear(area: &mut [i32], tool: i64, radius: i64, length: i64) -> u32
     if area.len() != AREA {
         return WRONG_AREA;
     }
-    if !in_range(tool, 1, TOOL_COUNT) {
-        return NO_SUCH_NUMBER;
-    }
-    if !(in_range(radius, -WEAR_LIMIT, WEAR_LIMIT) & in_range(length, -WEAR_LIMIT, WEAR_LIMIT)) {
-        return OUTSIDE_RANGE;
+    let refusal = wear_refusal(tool, radius, length);
+    if refusal != DONE {
+        return refusal;
     }
     let numbers = [radius as i32, length as i32];
     put_record(area, TOOLS, tool, &numbers);
@@ -76,13 +65,9 @@ pub fn set_offset(area: &mut [i32], offset: i64, v1: i64, v2: i64, v3: i64) -> u
     if area.len() != AREA {
         return WRONG_AREA;
     }
-    if !in_range(offset, 1, OFFSET_COUNT) {
-        return NO_SUCH_NUMBER;
-    }
-    if !(in_range(v1, -OFFSET_LIMIT, OFFSET_LIMIT)
-        & in_range(v2, -OFFSET_LIMIT, OFFSET_LIMIT)
-        & in_range(v3, -OFFSET_LIMIT, OFFSET_LIMIT)) {
-        return OUTSIDE_RANGE;
+    let refusal = offset_refusal(offset, v1, v2, v3);
+    if refusal != DONE {
+        return refusal;
     }
     let numbers = [v1 as i32, v2 as i32, v3 as i32];
     put_record(area, OFFSETS, offset, &numbers);
