@@ -1,2 +1,3 @@
 pub mod StatusRead
+pub mod StatusLaws
 pub mod CalibrateLaws

@@ -6,19 +6,13 @@ use area::status_from;
 use layout::number_at;
 use layout::put_number;
 use package::arguments::Calibration;
-use package::limits::TRIGGER_LIMIT;
 use package::records::Status;
-use package::refusals::BEYOND_TSA;
 use package::refusals::DONE;
-use package::refusals::LEAVES_RANGE;
 use package::refusals::NO_SUCH_NUMBER;
+use probes::calibrate_direction;
 use probes::calibration_refusal;
-use probes::change_size;
-use probes::mark_place;
-use probes::new_trigger;
 use probes::place_of;
 use probes::status_answer;
-use probes::trigger_left;
 use signed::in_range;
 ghost use mathlib.Core.Path.{_≡_};
 ghost use Rattle.rules.specs.Calls.{calibrate};
@@ -40,18 +34,13 @@ fn calibrate(area: &mut [i32], a: Calibration) -> u32
     let probe = a.probe;
     let place = place_of(a.axis, a.direction);
     let trigger = number_at(&area[..], PROBES, probe, place - 1);
-    let t = new_trigger(a);
-    let d = change_size(trigger, a);
-    if a.tsa < d {
-        return BEYOND_TSA;
-    }
-    if !in_range(t, -TRIGGER_LIMIT, TRIGGER_LIMIT) {
-        return LEAVES_RANGE;
-    }
-    // read only now: what no test needs does not take up registers before them
     let status = status_from(number_at(&area[..], PROBES, probe, 6));
-    put_number(area, PROBES, probe, place - 1, trigger_left(trigger, a));
-    put_number(area, PROBES, probe, 6, mark_place(status, place) as i32);
+    let c = calibrate_direction(trigger, status, place, a);
+    if c.refusal != DONE {
+        return c.refusal;
+    }
+    put_number(area, PROBES, probe, place - 1, c.trigger);
+    put_number(area, PROBES, probe, 6, c.status as i32);
     DONE
 }
 

@@ -96,6 +96,13 @@ pub struct ZeroRecords {
     pub offset: Offset,
 }
 
+// What a calibration leaves of its direction's trigger and its probe's status, with its refusal.
+pub struct Calibrated {
+    pub trigger: i32,
+    pub status: u32,
+    pub refusal: u32,
+}
+
 // What a measurement comes to: branch, verdict, the deviation of OVR[16] and the correction c.
 pub struct Evaluation {
     pub branch: u32,

@@ -2,35 +2,30 @@
 use mathlib.Core.Path.{_≡_, ap, _∙_}
 use mathlib.Core.Bool.{true}
 use native.Mathlib.Omega.{arith}
-use lib.ListN.{length}
 use mir.Syntax.{w32}
 use mir.Facts.{toZ-ofZ}
 use borrow.Author.Needs.{needs}
-use borrow.Author.Tests.{ne-eqb, eq-eqb}
 use Rattle.signed.specs.CodeLaws.{read-as, failed, passed}
 use Rattle.signed.specs.RangeLaws.{or-zero}
-use Rattle.rules.specs.Stores.{probeNumber, probes}
-use Rattle.rules.specs.Status.{statusAnswer, statusRead}
-use Rattle.area.specs.Table.{areaLength, statusFrom}
-use Rattle.area.specs.RecordLaws.{at-held}
-use Rattle.area.specs.Called.{wholeArea}
-use Rattle.calibrating.specs.StatusRead.{statusCalled}
+use Rattle.rules.specs.Stores.{probeNumber}
+use Rattle.rules.specs.Status.{statusAnswer}
+use Rattle.area.specs.Table.{statusFrom}
+use Rattle.calibrating.specs.StatusLaws.{status-wrong, status-refused, status-done}
 use Rattle.calibrating.proofs.probe_status.Statement.{statement}
 use Rattle.calibrating.proofs.probe_status.Tie as tie
 
 returns : tie.Need-returns
-unfolding statusCalled
-returns c = c .no-status .ensures ∙ rw (ne-eqb (length (c .before .before .args .area .now)) areaLength (c .before .if1 .taken))
+returns c = let s = c .before .before in c .no-status .ensures ∙ status-wrong (s .args .area .now) (c .before .if1 .taken) (s .args .probe)
 
 number : (c : tie.After-in-range) → c .in-range .result ≡ probeNumber (c .before .before .args .probe)
 number c = rw (toZ-ofZ (c .before .before .fits .probe)) at (c .in-range .ensures)
 
-whole : (c : tie.Else1) → wholeArea (c .before .args .area .now) ≡ true
-whole c = eq-eqb (length (c .before .args .area .now)) areaLength (c .if1 .left)
-
 returns-2 : tie.Need-returns-2
-unfolding statusCalled statusRead
-returns-2 c = let t = c .before in c .no-status2 .ensures ∙ rw (whole (t .before .before), failed (number (t .before)) (t .if2 .taken))
+returns-2 c =
+    let t = c .before in
+    let e = t .before .before in
+    let s = e .before in
+    c .no-status2 .ensures ∙ status-refused (s .args .area .now) (e .if1 .left) (s .args .probe) (failed (number (t .before)) (t .if2 .taken))
 
 allowed : (c : tie.Else2) → probeNumber (c .before .before .before .args .probe) ≡ true
 allowed c = passed (number (c .before)) (c .if2 .left)
@@ -41,7 +36,6 @@ number-at-requires c κs =
     (omega (arith, e .if1 .left), (rw (toZ-ofZ (e .before .fits .probe)) (or-zero 3 (e .before .args .probe) (allowed c)), omega arith))
 
 returns-3 : tie.Need-returns-3
-unfolding statusCalled statusRead
 returns-3 c =
     let f = c .before in
     let n = f .before in
@@ -51,7 +45,7 @@ returns-3 c =
     let number-is = read-as w32 (n .number-at .result) (n .number-at .ok) ∙ rw (toZ-ofZ (s .fits .probe)) at (n .number-at .ensures) in
     c .status-answer .ensures
     ∙ ap statusAnswer (f .status-from .ensures ∙ ap statusFrom number-is)
-    ∙ rw (whole e, allowed t, at-held (s .args .area .now) (omega (arith, e .if1 .left)) probes (s .args .probe) (or-zero 3 (s .args .probe) (allowed t)))
+    ∙ status-done (s .args .area .now) (e .if1 .left) (s .args .probe) (allowed t)
 
 pub probe-status-spec : {M : Type 1} → statement M
 probe-status-spec =
