@@ -6,10 +6,16 @@ use area::TOOLS;
 use area::WRONG_AREA;
 use layout::put_record;
 use layout::write_numbers;
+use package::limits::TOOL_COUNT;
+use package::limits::VALUE_COUNT;
+use package::limits::VALUE_GREATEST;
+use package::limits::VALUE_LEAST;
+use package::limits::WEAR_LIMIT;
 use package::refusals::DONE;
-use records::empirical_refusal;
+use package::refusals::NO_SUCH_NUMBER;
+use package::refusals::OUTSIDE_RANGE;
 use records::offset_refusal;
-use records::wear_refusal;
+use signed::in_range;
 ghost use mathlib.Core.Path.{_≡_};
 ghost use Rattle.rules.specs.Calls.{setEmpirical, setWear, setOffset};
 ghost use Rattle.area.specs.Called.{unmeasured, called, freshCalled};
@@ -33,9 +39,11 @@ pub fn set_empirical(area: &mut [i32], ev: i64, value: i64) -> u32
     if area.len() != AREA {
         return WRONG_AREA;
     }
-    let refusal = empirical_refusal(ev, value);
-    if refusal != DONE {
-        return refusal;
+    if !in_range(ev, 1, VALUE_COUNT) {
+        return NO_SUCH_NUMBER;
+    }
+    if !in_range(value, VALUE_LEAST, VALUE_GREATEST) {
+        return OUTSIDE_RANGE;
     }
     let numbers = [value as i32];
     put_record(area, EMPIRICALS, ev, &numbers);
@@ -49,9 +57,11 @@ pub fn set_wear(area: &mut [i32], tool: i64, radius: i64, length: i64) -> u32
     if area.len() != AREA {
         return WRONG_AREA;
     }
-    let refusal = wear_refusal(tool, radius, length);
-    if refusal != DONE {
-        return refusal;
+    if !in_range(tool, 1, TOOL_COUNT) {
+        return NO_SUCH_NUMBER;
+    }
+    if !(in_range(radius, -WEAR_LIMIT, WEAR_LIMIT) & in_range(length, -WEAR_LIMIT, WEAR_LIMIT)) {
+        return OUTSIDE_RANGE;
     }
     let numbers = [radius as i32, length as i32];
     put_record(area, TOOLS, tool, &numbers);
