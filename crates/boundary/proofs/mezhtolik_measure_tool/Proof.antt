@@ -43,5 +43,6 @@ returns-2 c =
 pub mezhtolik-measure-tool-spec : {M : Type 1} → statement M
 mezhtolik-measure-tool-spec =
     tie.close
-    (tie.spec (λ c κs. search needs) (λ c κs. search needs) (λ c κs. search needs) returns tool-of-requires (λ c κs. search needs) (λ c κs. search needs) (λ c. search needs)
+    (tie.spec (λ c κs. search needs) (λ c κs. search needs) (λ c κs. search needs) returns tool-of-requires (λ c κs. search needs) (λ c κs. search needs)
+    (λ c. search needs)
     (λ c. search needs) returns-2)

@@ -51,4 +51,7 @@ returns c =
     wear ∙ ap (λ (zs : List ℤ). renewed zs (write tools (a .tool) x)) mean
 
 pub put-tool-spec : {M : Type 1} → statement M
-put-tool-spec = tie.close (tie.spec (λ c. value c .fits) (λ c. search needs) put-record-requires (λ c. search needs) put-record-requires-2 (λ c. search needs) returns)
+put-tool-spec =
+    tie.close
+    (tie.spec (λ c. value c .fits) (λ c. search needs) put-record-requires (λ c. search needs) put-record-requires-2 (λ c. search needs)
+    returns)
