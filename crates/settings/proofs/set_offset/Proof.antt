@@ -1,16 +1,20 @@
 -- A wrong area comes first, then the rules of the arguments; where these pass, each value fits 32 bits, so that it is stored as it is.
 use mathlib.Core.Path.{_≡_, refl, sym, _∙_}
+use mathlib.Core.Bool.{true}
 use native.Mathlib.Omega.{arith}
-use mir.Syntax.{w32}
+use lib.IntN.{ℤ, pos}
+use mir.Syntax.{w32, w64}
+use mir.Val.{SFits}
 use mir.Facts.{toZ-ofZ}
 use borrow.Author.Needs.{needs}
-use Rattle.signed.specs.CodeLaws.{Cast}
+use Rattle.signed.specs.Ranges.{minus}
+use Rattle.signed.specs.CodeLaws.{Cast, casts}
 use Rattle.signed.specs.RangeLaws.{or-zero}
 use Rattle.rules.specs.Refusals.{first}
+use Rattle.rules.specs.Stores.{offsetRange}
 use Rattle.rules.specs.Settings.{offsetRules}
 use Rattle.rules.specs.Calls.{Call, setOffset}
 use Rattle.rules.specs.Passed.{offset-passed}
-use Rattle.records.specs.SettingLaws.{offset-casts}
 use Rattle.area.specs.CalledLaws.{call-wrong, call-refused, call-done}
 use Rattle.settings.proofs.set_offset.Statement.{statement}
 use Rattle.settings.proofs.set_offset.Tie as tie
@@ -32,18 +36,14 @@ returns-2 c = let w = c .before .before in let s = w .before in call-refused (s 
 none : (c : tie.Else2) → let s = c .before .before .before in first (offsetRules (s .args .offset) (s .args .v1) (s .args .v2) (s .args .v3)) ≡ 0
 none c = sym (given (c .before)) ∙ c .if2 .left
 
+cast : {v : ℤ} → SFits w64 v → offsetRange v ≡ true → Cast w32 v
+cast f i = casts w32 (minus 20000000) (pos 20000000) f tt tt i
+
 kept : (c : tie.Else2) → let s = c .before .before .before in Cast w32 (s .args .v1) × Cast w32 (s .args .v2) × Cast w32 (s .args .v3)
-kept c = let s = c .before .before .before in
-    offset-casts (s .args .offset) (s .args .v1) (s .args .v2) (s .args .v3) (none c) (s .fits .v1) (s .fits .v2) (s .fits .v3)
-
-cast-t10 : tie.Need-cast-t10
-cast-t10 c = search (kept c)
-
-cast-t11 : tie.Need-cast-t11
-cast-t11 c = search (kept c)
-
-cast-t12 : tie.Need-cast-t12
-cast-t12 c = search (kept c)
+kept c =
+    let s = c .before .before .before in
+    let t = offset-passed (s .args .offset) (s .args .v1) (s .args .v2) (s .args .v3) (none c) in
+    (cast (s .fits .v1) (t .first-in), cast (s .fits .v2) (t .second-in), cast (s .fits .v3) (t .third-in))
 
 put-record-requires : tie.Need-put-record-requires
 put-record-requires c κs =
@@ -69,4 +69,5 @@ returns-3 c =
 pub set-offset-spec : {M : Type 1} → statement M
 set-offset-spec =
     tie.close
-    (tie.spec returns (λ c κs. search needs) returns-2 cast-t10 cast-t11 cast-t12 (λ c. search needs) put-record-requires (λ c. search needs) returns-3)
+    (tie.spec returns (λ c κs. search needs) returns-2 (λ c. search (kept c)) (λ c. search (kept c)) (λ c. search (kept c)) (λ c. search needs)
+    put-record-requires (λ c. search needs) returns-3)
