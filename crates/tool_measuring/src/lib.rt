@@ -31,7 +31,7 @@ ghost use Rattle.rules.specs.Passed.{ToolNumbers};
 ghost use Rattle.area.specs.Table.{areaLength};
 ghost use Rattle.area.specs.Renewed.{renewedAll};
 ghost use Rattle.area.specs.Called.{answered, called};
-ghost use Rattle.measuring.specs.Reply.{measuredAs, toolMeasured};
+ghost use Rattle.measuring.specs.Reply.{tool, measuredAs, measuredOn};
 
 // Writes the mean value and the wears that a measurement leaves.
 fn put_tool(area: &mut [i32], a: ToolMeasurement, mean: i64, w: Wear)
@@ -54,7 +54,7 @@ pub fn evaluate_tool(
     place: usize,
 ) -> Answer
     ensures { λ r. ⌜ measuredAs (answered (r .refusal) (r .evaluation) (now (area .exit))) (now (results .exit))
-        ≡ toolMeasured (now (area .entry)) a (now (results .entry)) place ⌝ }
+        ≡ measuredOn (now (area .entry)) (tool a) (now (results .entry)) place ⌝ }
 {
     if area.len() != AREA {
         return not_answered(WRONG_AREA);

@@ -29,7 +29,7 @@ ghost use Rattle.rules.specs.Passed.{ZeroNumbers};
 ghost use Rattle.area.specs.Table.{areaLength};
 ghost use Rattle.area.specs.Renewed.{renewedAll};
 ghost use Rattle.area.specs.Called.{answered, called};
-ghost use Rattle.measuring.specs.Reply.{measuredAs, zeroMeasured};
+ghost use Rattle.measuring.specs.Reply.{zero, measuredAs, measuredOn};
 
 // Writes the zero offset that a measurement leaves.
 fn put_zero(area: &mut [i32], a: ZeroMeasurement, o: Offset)
@@ -49,7 +49,7 @@ pub fn evaluate_zero(
     place: usize,
 ) -> Answer
     ensures { λ r. ⌜ measuredAs (answered (r .refusal) (r .evaluation) (now (area .exit))) (now (results .exit))
-        ≡ zeroMeasured (now (area .entry)) a (now (results .entry)) place ⌝ }
+        ≡ measuredOn (now (area .entry)) (zero a) (now (results .entry)) place ⌝ }
 {
     if area.len() != AREA {
         return not_answered(WRONG_AREA);

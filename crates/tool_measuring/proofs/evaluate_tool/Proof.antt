@@ -20,7 +20,8 @@ use Rattle.rules.specs.Calls.{measureTool, meaning, toolRead}
 use Rattle.rules.specs.Answers.{arrayAfter}
 use Rattle.area.specs.Table.{held}
 use Rattle.area.specs.Renewed.{renewedAll}
-use Rattle.measuring.specs.ReplyLaws.{Way, toolWay, by-arguments, by-tests, small, wrong-area, refused, done}
+use Rattle.measuring.specs.Reply.{tool}
+use Rattle.measuring.specs.ReplyLaws.{Asked, by-arguments, by-tests, small, wrong-area, refused, done}
 use Rattle.tool_measuring.proofs.evaluate_tool.Statement.{statement}
 use Rattle.tool_measuring.proofs.evaluate_tool.Tie as tie
 
@@ -36,13 +37,13 @@ module _ (r : ToolRecords) (a : ToolMeasurement) {f : Found} (found : f ≡ tool
   unfolding wearsLeft
   changes-are kind e = rw (e, kind, found)
 
-abbrev way : (s : tie.Start) → Way (s .args .area .now) (s .args .results .now) (s .args .place)
-way s = toolWay (s .args .area .now) (s .args .results .now) (s .args .place) (s .args .a)
+abbrev asked : tie.Start → Asked
+asked s = record { measurement = tool (s .args .a); area = s .args .area .now; results = s .args .results .now; place = s .args .place }
 
 returns : tie.Need-returns
 returns c =
     let s = c .before .before in
-    rw (c .not-answered .ensures .0, c .not-answered .ensures .1) (wrong-area (way s) (c .before .if1 .taken))
+    rw (c .not-answered .ensures .0, c .not-answered .ensures .1) (wrong-area (asked s) (c .before .if1 .taken))
 
 -- ---- the arguments
 module _ (k : tie.After-kind-of) where
@@ -57,17 +58,17 @@ module _ (k : tie.After-kind-of) where
 
 number-stated : (c : tie.Then2) → let s = start (c .before .before) in
     c .before .tool-refusal .result ≡ first (toolRules (toolRead (held (s .args .area .now)) (s .args .a)) (s .args .a))
-number-stated c = by-arguments (way (start (c .before .before))) (c .before .tool-refusal .ensures) (c .if2 .taken)
+number-stated c = by-arguments (asked (start (c .before .before))) (c .before .tool-refusal .ensures) (c .if2 .taken)
 
 refused-requires : tie.Need-refused-requires
-refused-requires c κs = let t = c .before in small (way (start (t .before .before))) (number-stated t)
+refused-requires c κs = let t = c .before in small (asked (start (t .before .before))) (number-stated t)
 
 returns-2 : tie.Need-returns-2
 returns-2 c =
     let r = c .before .refused .ensures in
     let t = c .before .before .before in
     let k = t .before .before in
-    rw (r .0 .0, r .0 .1) (refused (way (start k)) (whole k .if1 .left) (number-stated t) (t .if2 .taken) (r .1))
+    rw (r .0 .0, r .0 .1) (refused (asked (start k)) (whole k .if1 .left) (number-stated t) (t .if2 .taken) (r .1))
 
 -- ---- where they pass
 module _ (c : tie.Else2) where
@@ -110,18 +111,18 @@ module _ (c : tie.After-records-refusal) where
 
   number-is : c .records-refusal .result ≡ first (toolRules records (at-start .args .a))
   number-is =
-      by-tests (way at-start) (none at-passed)
+      by-tests (asked at-start) (none at-passed)
       (refusal-is ∙ ap (λ (t : Tests). first (recordRules t)) (tests-are records (at-start .args .a) found-is))
 
 refused-requires-2 : tie.Need-refused-requires-2
-refused-requires-2 c κs = let q = c .before .before in small (way (at-start q)) (number-is q)
+refused-requires-2 c κs = let q = c .before .before in small (asked (at-start q)) (number-is q)
 
 returns-3 : tie.Need-returns-3
 returns-3 c =
     let r = c .before .refused2 .ensures in
     let t = c .before .before .before in
     let q = t .before in
-    rw (r .0 .0, r .0 .1) (refused (way (at-start q)) (whole (kind (at-passed q)) .if1 .left) (number-is q) (t .if3 .taken) (r .1))
+    rw (r .0 .0, r .0 .1) (refused (asked (at-start q)) (whole (kind (at-passed q)) .if1 .left) (number-is q) (t .if3 .taken) (r .1))
 
 -- ---- done
 tests : (c : tie.Else3) → TestsPassed (foundTests (at-start (c .before) .args .a) (at-found (c .before) .tool-found .result))
@@ -173,7 +174,7 @@ returns-4 c =
     let left = rw (read (f .decision .mean) (t3 .struct-told3 .given .1 .1 .1 .1 .0 .1 .1 .1 .1 .0 .1)) at (p .put-tool .ensures) in
     let changes = changes-are (r .result) a (at-found q .tool-found .ensures .0) (kind-is (kind (at-passed q))) wear
     ∙ ap (λ (r : ToolRecords). meaning (measureTool a lent 0) .changes r) (r .ensures) in
-    done (way s) (whole (kind (at-passed q)) .if1 .left) (sym (number-is q) ∙ at-wears t3 .before .before .before .if3 .left)
+    done (asked s) (whole (kind (at-passed q)) .if1 .left) (sym (number-is q) ∙ at-wears t3 .before .before .before .if3 .left)
     (c .tool-evaluation .ensures ∙ ap (toolEvaluation a) (found-is q))
     (left ∙ ap (renewedAll (s .args .area .now)) changes)
     (n .put-tool-numbers .ensures ∙ ap (λ (f : Found). arrayAfter (s .args .results .now) (s .args .place) (toolFilled a f)) (found-is q))

@@ -19,17 +19,18 @@ use Rattle.rules.specs.Answers.{arrayAfter}
 use Rattle.area.specs.Table.{held}
 use Rattle.area.specs.Renewed.{renewed}
 use Rattle.zero_offset.specs.ZeroFound.{ZeroFound, found-small}
-use Rattle.measuring.specs.ReplyLaws.{Way, zeroWay, by-arguments, by-tests, small, wrong-area, refused, done}
+use Rattle.measuring.specs.Reply.{zero}
+use Rattle.measuring.specs.ReplyLaws.{Asked, by-arguments, by-tests, small, wrong-area, refused, done}
 use Rattle.zero_measuring.proofs.evaluate_zero.Statement.{statement}
 use Rattle.zero_measuring.proofs.evaluate_zero.Tie as tie
 
-abbrev way : (s : tie.Start) → Way (s .args .area .now) (s .args .results .now) (s .args .place)
-way s = zeroWay (s .args .area .now) (s .args .results .now) (s .args .place) (s .args .a)
+abbrev asked : tie.Start → Asked
+asked s = record { measurement = zero (s .args .a); area = s .args .area .now; results = s .args .results .now; place = s .args .place }
 
 returns : tie.Need-returns
 returns c =
     let s = c .before .before in
-    rw (c .not-answered .ensures .0, c .not-answered .ensures .1) (wrong-area (way s) (c .before .if1 .taken))
+    rw (c .not-answered .ensures .0, c .not-answered .ensures .1) (wrong-area (asked s) (c .before .if1 .taken))
 
 -- ---- the arguments
 module _ (k : tie.After-zero-kind-of) where
@@ -44,17 +45,17 @@ module _ (k : tie.After-zero-kind-of) where
 
 number-stated : (c : tie.Then2) → let s = start (c .before .before) in
     c .before .zero-refusal .result ≡ first (zeroRules (zeroRead (held (s .args .area .now)) (s .args .a)) (s .args .a))
-number-stated c = by-arguments (way (start (c .before .before))) (c .before .zero-refusal .ensures) (c .if2 .taken)
+number-stated c = by-arguments (asked (start (c .before .before))) (c .before .zero-refusal .ensures) (c .if2 .taken)
 
 refused-requires : tie.Need-refused-requires
-refused-requires c κs = let t = c .before in small (way (start (t .before .before))) (number-stated t)
+refused-requires c κs = let t = c .before in small (asked (start (t .before .before))) (number-stated t)
 
 returns-2 : tie.Need-returns-2
 returns-2 c =
     let r = c .before .refused .ensures in
     let t = c .before .before .before in
     let k = t .before .before in
-    rw (r .0 .0, r .0 .1) (refused (way (start k)) (whole k .if1 .left) (number-stated t) (t .if2 .taken) (r .1))
+    rw (r .0 .0, r .0 .1) (refused (asked (start k)) (whole k .if1 .left) (number-stated t) (t .if2 .taken) (r .1))
 
 -- ---- where they pass
 module _ (c : tie.Else2) where
@@ -104,11 +105,11 @@ module _ (c : tie.After-records-refusal) where
 
   number-is : c .records-refusal .result ≡ first (zeroRules (zeroRead (held (at-start at-sizes .args .area .now)) arguments) arguments)
   number-is =
-      by-tests (way (at-start at-sizes)) (none (at-passed at-sizes))
+      by-tests (asked (at-start at-sizes)) (none (at-passed at-sizes))
       (refusal-is ∙ ap (λ (r : ZeroRecords). first (recordRules (zeroTests r arguments))) (at-records at-sizes .zero-records .ensures))
 
 refused-requires-2 : tie.Need-refused-requires-2
-refused-requires-2 c κs = let q = c .before .before in small (way (at-start (at-sizes q))) (number-is q)
+refused-requires-2 c κs = let q = c .before .before in small (asked (at-start (at-sizes q))) (number-is q)
 
 returns-3 : tie.Need-returns-3
 returns-3 c =
@@ -116,7 +117,7 @@ returns-3 c =
     let t = c .before .before .before in
     let q = t .before in
     let z = at-sizes q in
-    rw (r .0 .0, r .0 .1) (refused (way (at-start z)) (whole (kind (at-passed z)) .if1 .left) (number-is q) (t .if3 .taken) (r .1))
+    rw (r .0 .0, r .0 .1) (refused (asked (at-start z)) (whole (kind (at-passed z)) .if1 .left) (number-is q) (t .if3 .taken) (r .1))
 
 -- ---- done
 offset-left-requires : tie.Need-offset-left-requires
@@ -152,7 +153,7 @@ returns-4 c =
     let s = at-start z in
     let a = s .args .a in
     let left = l .offset-left .ensures ∙ ap (λ (r : ZeroRecords). offsetLeft r a) (at-records z .zero-records .ensures) in
-    done (way s) (whole (kind (at-passed z)) .if1 .left) (sym (number-is q) ∙ l .before .before .if3 .left)
+    done (asked s) (whole (kind (at-passed z)) .if1 .left) (sym (number-is q) ∙ l .before .before .if3 .left)
     (c .zero-evaluation .ensures ∙ ap zeroEvaluation (sizes-are z))
     (p .put-zero .ensures ∙ ap (λ (o : Offset). renewed (s .args .area .now) (write offsets (a .offset) o)) left)
     (n .put-zero-numbers .ensures ∙ ap (λ (x : Sizes). arrayAfter (s .args .results .now) (s .args .place) (zeroFilled a x)) (sizes-are z))
