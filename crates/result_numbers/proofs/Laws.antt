@@ -34,14 +34,14 @@ both-small k a s ev numbers kind t e = entries-small k a s ev t e kind (number-s
 limit-size : (z : ℤ) → minus 1000000 ≤ℤ z → z ≤ℤ pos 1000000 → natAbs z ≤ 1000000
 limit-size = parts _ (λ a b. simp ints (omega arith))
 
-record LimitsSmall (l : Limits) : Type 0 where
+pub record LimitsSmall (l : Limits) : Type 0 where
   pub tzl : natAbs (l .tzl) ≤ 1000000
   pub tul : natAbs (l .tul) ≤ 1000000
   pub tll : natAbs (l .tll) ≤ 1000000
   pub tdif : natAbs (l .tdif) ≤ 1000000
   pub tsa : natAbs (l .tsa) ≤ 1000000
 
-limits-small : (z : Limits) → LimitsPassed z → LimitsSmall z
+pub limits-small : (z : Limits) → LimitsPassed z → LimitsSmall z
 limits-small z l =
     let top = pos 1000000 in
     let tdif = ≤ℤ-trans (z .tdif) (z .tsa) top (l .tdif-tsa) (l .tsa-top) in

@@ -17,7 +17,7 @@ returns c =
       v .verdict-of .ensures,
       narrowed (f .deviation) (s .pre .deviation) .value,
       narrowed (f .decision .correction) (s .pre .decision .correction) .value,
-      read (f .deviation) (v .before .struct-told .given .1 .1 .1 .0 .1),
+      read (f .deviation) (search (v .before .struct-told .given)),
     )
 
 cast-t8 : tie.Need-cast-t8

@@ -92,21 +92,21 @@ put-signed-field-requires c κs =
     let p = c .before .before .before .before in
     let s = start2 p in
     let e = s .args .e in
-    room-read (e .deviation) comma (c .struct-told .given .1 .1 .0 .1) _ _ (fits-next _ _ _ _ (t2 e) (signedField (e .deviation) comma) (fits3 s) (put2 p))
+    room-read (e .deviation) comma (search (c .struct-told .given)) _ _ (fits-next _ _ _ _ (t2 e) (signedField (e .deviation) comma) (fits3 s) (put2 p))
 
 put3 : (c : tie.After-put-signed-field) → let s = start3 c in
     Put (s .args .out .now) (s .args .at) (t3 (s .args .e)) (c .put-signed-field .result) (c .put-signed-field .last .0)
 put3 c =
     let e = start3 c .args .e in
     chain _ _ _ _ _ _ (t2 e) (signedField (e .deviation) comma) (fits3 (start3 c)) (put2 (c .before .before .before .before .before))
-    (put-read (e .deviation) comma (c .before .struct-told .given .1 .1 .0 .1) _ _ _ _ (c .put-signed-field .ensures))
+    (put-read (e .deviation) comma (search (c .before .struct-told .given)) _ _ _ _ (c .put-signed-field .ensures))
 
 put-signed-field-requires-2 : tie.Need-put-signed-field-requires-2
 put-signed-field-requires-2 c κs =
     let p = c .before .before .before .before in
     let s = start3 p in
     let e = s .args .e in
-    room-read (e .correction) lineFeed (c .struct-told2 .given .1 .1 .1 .0 .1) _ _
+    room-read (e .correction) lineFeed (search (c .struct-told2 .given)) _ _
     (fits-next _ _ _ _ (t3 e) (signedField (e .correction) lineFeed) (fits4 s) (put3 p))
 
 put4 : (c : tie.After-put-signed-field2) → let s = start4 c in
@@ -114,7 +114,7 @@ put4 : (c : tie.After-put-signed-field2) → let s = start4 c in
 put4 c =
     let e = start4 c .args .e in
     chain _ _ _ _ _ _ (t3 e) (signedField (e .correction) lineFeed) (fits4 (start4 c)) (put3 (c .before .before .before .before .before))
-    (put-read (e .correction) lineFeed (c .before .struct-told2 .given .1 .1 .1 .0 .1) _ _ _ _ (c .put-signed-field2 .ensures))
+    (put-read (e .correction) lineFeed (search (c .before .struct-told2 .given)) _ _ _ _ (c .put-signed-field2 .ensures))
 
 same-length : tie.Need-same-length
 same-length c =

@@ -1,7 +1,7 @@
 -- After each turn the lines that are left, run on the area as it is, come to what all come to, and the output so far is the text of those before.
 use mathlib.Core.Path.{_≡_, refl, sym, ap, subst, _∙_}
 use mathlib.Core.List.{List, _∷_, _++_, append-assoc, append-nil}
-use Prim.Native.Nat.{ℕ, _+_, _*_, _≤_, _<_, _-_}
+use Prim.Native.Nat.{ℕ, _+_, _*_, _^_, _≤_, _<_, _-_}
 use native.Mathlib.Omega.{arith}
 use lib.ListN.{length, take, drop, length-drop, take-append-drop}
 use lib.Signed.{natAbs-le}
@@ -108,12 +108,11 @@ stepped c =
 short : (c : tie.After-run-line Inv-loop μ-loop) → length (rowText (c .run-line .result)) ≤ 40
 short c =
     let l = line-at c in
-    let e = c .run-line .ok .1 .1 .1 .1 .0 .1 .1 .1 .1 in
     at-most-40 (c .run-line .result)
     (subst (λ (o : Ran). Small (o .row)) (sym (stepped c))
     (row-small (l .loop .area) (l .loop .number + 1) (saidBy (line (rest l))) (l .loop .inv .3) (counted (reading c) .1)))
-    (omega (arith, natAbs-le (c .run-line .result .evaluation .deviation) (e .0 .1)))
-    (omega (arith, natAbs-le (c .run-line .result .evaluation .correction) (e .1 .0 .1)))
+    (omega (arith, natAbs-le (c .run-line .result .evaluation .deviation) {H = 2 ^ 31} (search (c .run-line .ok))))
+    (omega (arith, natAbs-le (c .run-line .result .evaluation .correction) {H = 2 ^ 31} (search (c .run-line .ok))))
 
 room : (c : tie.After-run-line Inv-loop μ-loop) → line-at c .loop .filled + length (rowText (c .run-line .result)) ≤ length (line-at c .loop .output)
 room c =

@@ -9,12 +9,12 @@ probe-at-requires : tie.Need-probe-at-requires
 probe-at-requires c κs =
     let s = c .before .before in
     let a = s .args .a in
-    (s .pre .0, rw (read (a .probing .probe) (c .struct-told .given .1 .0 .1)) (probe-number (zeroKindOf a) (a .probing) (s .pre .1 .numbers)))
+    (s .pre .0, rw (read (a .probing .probe) (search (c .struct-told .given))) (probe-number (zeroKindOf a) (a .probing) (s .pre .1 .numbers)))
 
 offset-at-requires : tie.Need-offset-at-requires
 offset-at-requires c κs =
     let s = c .before .before .before .before in
-    (s .pre .0, rw (read (s .args .a .offset) (c .struct-told2 .given .1 .1 .0 .1)) (s .pre .1 .offset))
+    (s .pre .0, rw (read (s .args .a .offset) (search (c .struct-told2 .given))) (s .pre .1 .offset))
 
 returns : tie.Need-returns
 returns c =
@@ -23,8 +23,8 @@ returns c =
     let t1 = x .before in
     let a = t1 .before .before .args .a in
     rw (
-      rw (read (a .probing .probe) (t1 .struct-told .given .1 .0 .1)) at (x .probe-at .ensures),
-      rw (read (a .offset) (t2 .struct-told2 .given .1 .1 .0 .1)) at (c .offset-at .ensures),
+      rw (read (a .probing .probe) (search (t1 .struct-told .given))) at (x .probe-at .ensures),
+      rw (read (a .offset) (search (t2 .struct-told2 .given))) at (c .offset-at .ensures),
     )
 
 pub zero-records-spec : {M : Type 1} → statement M

@@ -14,7 +14,7 @@ use Rattle.rules.specs.Tool.{toolKindOf}
 use Rattle.rules.specs.Results.{ovr, toolEntries, toolFilled}
 use Rattle.results.specs.ResultLaws.{small-fits, asked, stored}
 use Rattle.results.specs.OutcomeLaws.{number-size}
-use Rattle.result_numbers.proofs.Laws.{both-small, tool-small}
+use Rattle.result_numbers.proofs.Laws.{both-small, LimitsSmall, limits-small, tool-small}
 use Rattle.result_numbers.proofs.tool_numbers.Statement.{statement}
 use Rattle.result_numbers.proofs.tool_numbers.Tie as tie
 
@@ -24,7 +24,7 @@ size-numbers-requires c κs =
     let a = s .args .a in
     let h = s .pre .1 .0 .numbers in
     let f = s .pre .1 .1 in
-    rw (read (s .args .f .ev) (c .struct-told .given .1 .1 .0 .1), s .pre .0)
+    rw (read (s .args .f .ev) (search (c .struct-told .given)), s .pre .0)
     (both-small (toolKindOf a) (a .probing) (s .args .f .sizes) (s .args .f .ev) (h .numbers) (omega (arith, number-size 0 4 (a .probing .kind) (h .kind)))
     (f .sizes) (f .ev))
 
@@ -83,18 +83,18 @@ raised s t = s .args .f .sizes .held .setpoint +ℤ t
 abbrev Raised : tie.Start → ℤ → Type 0
 Raised s t = toZ w64 (ofZ w64 (s .args .f .sizes .held .setpoint)) +ℤ toZ w64 (ofZ w64 t) ≡ raised s t
 
-raised-read : (s : tie.Start) (t : ℤ) → toZ w64 (ofZ w64 t) ≡ t → Raised s t
-raised-read s t e = rw (e, toZ-ofZ (small-fits (s .args .f .sizes .held .setpoint) (omega (arith, s .pre .1 .1 .sizes .setpoint))))
+raised-read : (s : tie.Start) (t : ℤ) → natAbs t ≤ 1000000 → Raised s t
+raised-read s t h =
+    rw (toZ-ofZ (small-fits t (omega (arith, h))), toZ-ofZ (small-fits (s .args .f .sizes .held .setpoint) (omega (arith, s .pre .1 .1 .sizes .setpoint))))
+
+limits : (s : tie.Start) → LimitsSmall (s .args .a .limits)
+limits s = limits-small (s .args .a .limits) (s .pre .1 .0 .limits)
 
 upper : (c : tie.After-struct-told3) → Raised (from1 c) (from1 c .args .a .limits .tul)
-upper c =
-    let l = from1 c .args .a .limits in
-    raised-read (from1 c) (l .tul) (read (l .tul) (c .struct-told3 .given .1 .1 .1 .1 .1 .1 .0 .1 .1 .1 .1 .0 .1))
+upper c = let s = from1 c in raised-read s (s .args .a .limits .tul) (limits s .tul)
 
 lower : (c : tie.After-struct-told5) → Raised (from2 c) (from2 c .args .a .limits .tll)
-lower c =
-    let l = from2 c .args .a .limits in
-    raised-read (from2 c) (l .tll) (read (l .tll) (c .struct-told5 .given .1 .1 .1 .1 .1 .1 .0 .1 .1 .1 .1 .1 .0 .1))
+lower c = let s = from2 c in raised-read s (s .args .a .limits .tll) (limits s .tll)
 
 returns : tie.Need-returns
 unfolding toolFilled
@@ -117,7 +117,7 @@ returns c =
     rw (
       z .size-numbers .ensures,
       s .pre .0,
-      read (s .args .f .ev) (z .before .struct-told .given .1 .1 .0 .1),
+      read (s .args .f .ev) (search (z .before .struct-told .given)),
       stored (raised s (s .args .a .limits .tul)) (small 0 (omega arith)) (rw (upper (n1 .before)) at (n1 .narrow .ensures)),
       stored (raised s (s .args .a .limits .tll)) (small 1 (omega arith)) (rw (lower (n2 .before)) at (n2 .narrow2 .ensures)),
       stored (s .args .f .decision .correction) (small 2 (omega arith)) (n3 .narrow3 .ensures),

@@ -30,7 +30,7 @@ returns-5 : tie.Need-returns-5
 returns-5 c =
     let r = c .match .rest in
     let s = c .before .before .args in
-    rest (pos 0) (s .q .r1 ∷ s .q .r2 ∷ s .q .r3 ∷ s .q .r4 ∷ []) (s .t .number) (r .0 .0 .0 .1, (r .0 .0 .1, (r .0 .1, (r .1, tt))))
+    rest (pos 0) (s .q .r1 ∷ s .q .r2 ∷ s .q .r3 ∷ s .q .r4 ∷ []) (s .t .number) (search r, (search r, (search r, (search r, tt))))
 
 pub raw-at-spec : {M : Type 1} → statement M
 raw-at-spec = tie.close (tie.spec returns returns-2 returns-3 returns-4 returns-5)

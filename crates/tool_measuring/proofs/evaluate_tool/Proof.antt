@@ -1,6 +1,11 @@
 -- By the cases of either way of measuring: an area of another length; refused by the arguments, then by the records; done, with the changes of the call.
 use mathlib.Core.Path.{_≡_, sym, ap, _∙_}
+use mathlib.Core.Bool.{true}
 use mathlib.Core.List.{[], _∷_}
+use native.Mathlib.Omega.{arith}
+use mir.Syntax.{w64}
+use mir.Val.{toZ, ofZ}
+use mir.Facts.{toZ-ofZ}
 use borrow.Author.Needs.{needs}
 use Rattle.signed.specs.CodeLaws.{read}
 use Rattle.package.specs.declared.found.Kind.{Kind}
@@ -9,7 +14,7 @@ use Rattle.package.specs.declared.found.Tests.{Tests}
 use Rattle.package.specs.declared.found.Found.{Found}
 use Rattle.package.specs.declared.arguments.ToolMeasurement.{ToolMeasurement}
 use Rattle.package.specs.declared.found.ToolRecords.{ToolRecords}
-use Rattle.rules.specs.Stores.{means, tools}
+use Rattle.rules.specs.Stores.{valueRange, means, tools}
 use Rattle.rules.specs.Refusals.{first}
 use Rattle.rules.specs.Measuring.{lent, recordRules}
 use Rattle.rules.specs.Tool.{toolKindOf, onLength, withWearOn, toolArguments, toolTests, foundTests, toolFound, toolRules, wearsLeft}
@@ -20,6 +25,8 @@ use Rattle.rules.specs.Calls.{measureTool, meaning, toolRead}
 use Rattle.rules.specs.Answers.{arrayAfter}
 use Rattle.area.specs.Table.{held}
 use Rattle.area.specs.Renewed.{renewedAll}
+use Rattle.results.specs.ResultLaws.{small-fits}
+use Rattle.evaluation.specs.FoundSmall.{value-size}
 use Rattle.measuring.specs.Reply.{tool}
 use Rattle.measuring.specs.ReplyLaws.{Asked, by-arguments, by-tests, small, wrong-area, refused, done}
 use Rattle.tool_measuring.proofs.evaluate_tool.Statement.{statement}
@@ -128,11 +135,11 @@ returns-3 c =
 tests : (c : tie.Else3) → TestsPassed (foundTests (at-start (c .before) .args .a) (at-found (c .before) .tool-found .result))
 tests c = tests-passed (foundTests (at-start (c .before) .args .a) (at-found (c .before) .tool-found .result)) (sym (refusal-is (c .before)) ∙ c .if3 .left)
 
+wear-read : (c : tie.After-struct-told2) → let z = at-found (c .before .before .before .before) .tool-found .result .wear in toZ w64 (ofZ w64 z) ≡ z
+wear-read c = read _ (search (c .struct-told2 .given))
+
 wears-left-requires : tie.Need-wears-left-requires
-wears-left-requires c κs =
-    let e = c .before .before .before in
-    let f = at-found (e .before) .tool-found .result in
-    rw (read (f .wear) (c .struct-told2 .given .1 .1 .1 .1 .1 .0 .1)) (tests e .range)
+wears-left-requires c κs = rw (wear-read c) (tests (c .before .before .before) .range)
 
 module _ (c : tie.After-struct-told3) where
   abbrev at-wears : tie.After-struct-told2
@@ -144,16 +151,16 @@ module _ (c : tie.After-struct-told3) where
   abbrev found : Found
   found = at-found at-tests .tool-found .result
 
+  mean-in : valueRange (found .decision .mean) ≡ true
+  mean-in = at-found at-tests .tool-found .ensures .1 .decision .mean
+
+  mean-read : toZ w64 (ofZ w64 (found .decision .mean)) ≡ found .decision .mean
+  mean-read = toZ-ofZ (small-fits (found .decision .mean) (omega (arith, value-size (found .decision .mean) mean-in)))
+
 put-tool-requires : tie.Need-put-tool-requires
 put-tool-requires c κs =
-    let e = at-passed (at-tests c) in (
-      whole (kind e) .if1 .left,
-      (
-        passed e .numbers,
-        rw (read (found c .decision .mean) (c .struct-told3 .given .1 .1 .1 .1 .0 .1 .1 .1 .1 .0 .1))
-            (at-found (at-tests c) .tool-found .ensures .1 .decision .mean),
-      ),
-    )
+    let e = at-passed (at-tests c) in
+    (whole (kind e) .if1 .left, (passed e .numbers, rw (mean-read c) (mean-in c)))
 
 put-tool-numbers-requires : tie.Need-put-tool-numbers-requires
 put-tool-numbers-requires c κs =
@@ -170,8 +177,8 @@ returns-4 c =
     let a = s .args .a in
     let f = found t3 in
     let r = at-found q .before .tool-records in
-    let wear = rw (read (f .wear) (at-wears t3 .struct-told2 .given .1 .1 .1 .1 .1 .0 .1)) at (t3 .before .wears-left .ensures) in
-    let left = rw (read (f .decision .mean) (t3 .struct-told3 .given .1 .1 .1 .1 .0 .1 .1 .1 .1 .0 .1)) at (p .put-tool .ensures) in
+    let wear = rw (wear-read (at-wears t3)) at (t3 .before .wears-left .ensures) in
+    let left = rw (mean-read t3) at (p .put-tool .ensures) in
     let changes = changes-are (r .result) a (at-found q .tool-found .ensures .0) (kind-is (kind (at-passed q))) wear
     ∙ ap (λ (r : ToolRecords). meaning (measureTool a lent 0) .changes r) (r .ensures) in
     done (asked s) (whole (kind (at-passed q)) .if1 .left) (sym (number-is q) ∙ at-wears t3 .before .before .before .if3 .left)

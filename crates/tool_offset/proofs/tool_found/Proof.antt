@@ -33,10 +33,10 @@ module _ (c : tie.After-struct-told) where
   first = start (c .before .before .before)
 
   ev : Widened w16 w64 (first .args .r .ev)
-  ev = widened w16 w64 (first .args .r .ev) tt (c .struct-told .given .1 .0 .1)
+  ev = widened w16 w64 (first .args .r .ev) tt (search (c .struct-told .given))
 
   ev-size : natAbs (first .args .r .ev) ≤ 32768
-  ev-size = value-size (first .args .r .ev) (small-value (first .args .r .ev) (c .struct-told .given .1 .0 .1))
+  ev-size = value-size (first .args .r .ev) (small-value (first .args .r .ev) (search (c .struct-told .given)))
 
 returns : tie.Need-returns
 returns c =
@@ -48,8 +48,8 @@ returns c =
     let z = v .before .before .before in
     let s = start z in
     let d = dv .difference-of in
-    let decision = rw (read-as w16 (s .args .r .mean) (t2 .struct-told2 .given .1 .1 .0 .1), read (d .result) (d .ok)) at (dc .decision-of .ensures .0) in
-    let wear = rw (read (dc .decision-of .result .correction) (c .before .struct-told3 .given .1 .0 .1)) at (c .wear-left .ensures) in
+    let decision = rw (read-as w16 (s .args .r .mean) (search (t2 .struct-told2 .given)), read (d .result) (d .ok)) at (dc .decision-of .ensures .0) in
+    let wear = rw (read (dc .decision-of .result .correction) (search (c .before .struct-told3 .given))) at (c .wear-left .ensures) in
     rw (ev v .value, read (d .result) (d .ok), read (c .wear-left .result) (c .wear-left .ok)) (
       found-is (s .args .r) (s .args .a) (s .pre .0) (k .calibrated-ok .ensures) (z .sizes-of .ensures) (rw (ev v .value) at (d .ensures .0)) decision wear,
       record { sizes = small z; ev = ev-size v; deviation = omega (arith, d .ensures .1); decision = dc .decision-of .ensures .1 },
@@ -72,7 +72,7 @@ calibrated-ok-requires c κs = passed (first (c .before .before .before)) .0
 wear-left-requires : tie.Need-wear-left-requires
 wear-left-requires c κs =
     let d = c .before .before .decision-of in
-    rw (read (d .result .correction) (c .struct-told3 .given .1 .0 .1)) (d .ensures .1 .correction)
+    rw (read (d .result .correction) (search (c .struct-told3 .given))) (d .ensures .1 .correction)
 
 pub tool-found-spec : {M : Type 1} → statement M
 tool-found-spec =

@@ -44,7 +44,7 @@ module _ (c : tie.After-factor-of) where
   start = wear .before .before .before
 
   factor-is : c .factor-of .result ≡ factor (start .args .k) (start .args .a .direction)
-  factor-is = rw (read (start .args .a .direction) (c .before .struct-told2 .given .1 .1 .1 .0 .1)) at (c .factor-of .ensures)
+  factor-is = rw (read (start .args .a .direction) (search (c .before .struct-told2 .given))) at (c .factor-of .ensures)
 
   abbrev left : Ex w64
   left =
@@ -65,7 +65,7 @@ returns : tie.Need-returns
 returns c =
     let a = start c .args .a in
     let l = wear c .before in
-    let length = rw (read (a .axis) (l .before .struct-told .given .1 .1 .0 .1)) at (l .on-length .ensures) in
+    let length = rw (read (a .axis) (search (l .before .struct-told .given))) at (l .on-length .ensures) in
     runs c .value ∙ ap₂ (λ (w f : ℤ). w +ℤ f *ℤ start c .args .c) (wear c .wear-on .ensures .0 ∙ ap (λ (b : Bool). wearOn b (start c .args .w)) length)
     (factor-is c)
 

@@ -9,8 +9,8 @@ use Rattle.wears.proofs.wear_on.Tie as tie
 returns : tie.Need-returns
 returns c =
     let w = c .before .before .before .args .w in
-    rw (widened w32 w64 (w .length) tt (c .struct-told .given .1 .0 .1) .value, c .before .before .if1 .taken)
-    (refl, natAbs-le (w .length) (c .struct-told .given .1 .0 .1))
+    rw (widened w32 w64 (w .length) tt (search (c .struct-told .given)) .value, c .before .before .if1 .taken)
+    (refl, natAbs-le (w .length) (search (c .struct-told .given)))
 
 returns-2 : tie.Need-returns-2
 returns-2 c =
@@ -19,7 +19,7 @@ returns-2 c =
     (refl, natAbs-le (w .radius) (c .struct-told2 .given .0 .1))
 
 cast-result : tie.Need-cast-result
-cast-result c = widened w32 w64 (c .before .before .before .args .w .length) tt (c .struct-told .given .1 .0 .1) .fits
+cast-result c = widened w32 w64 (c .before .before .before .args .w .length) tt (search (c .struct-told .given)) .fits
 
 cast-result-2 : tie.Need-cast-result-2
 cast-result-2 c = widened w32 w64 (c .before .before .before .args .w .radius) tt (c .struct-told2 .given .0 .1) .fits

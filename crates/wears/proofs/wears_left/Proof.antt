@@ -14,7 +14,7 @@ module _ (c : tie.After-on-length) where
   start = c .before .before
 
   length-is : c .on-length .result ≡ onLength (start .args .k) (start .args .a .axis)
-  length-is = rw (read (start .args .a .axis) (c .before .struct-told .given .1 .1 .0 .1)) at (c .on-length .ensures)
+  length-is = rw (read (start .args .a .axis) (search (c .before .struct-told .given))) at (c .on-length .ensures)
 
   value : Cast w32 (start .args .v)
   value = casts w32 (minus 2000000) (pos 2000000) (start .fits .v) tt tt (start .pre)

@@ -10,14 +10,14 @@ put-record-requires : tie.Need-put-record-requires
 put-record-requires c κs =
     let s = c .before .before .before .before in (
       omega (arith, s .pre .0),
-      (rw (read (s .args .a .offset) (c .struct-told .given .1 .1 .0 .1)) (or-zero 4 (s .args .a .offset) (s .pre .1 .offset)), search needs),
+      (rw (read (s .args .a .offset) (search (c .struct-told .given))) (or-zero 4 (s .args .a .offset) (s .pre .1 .offset)), search needs),
     )
 
 returns : tie.Need-returns
 returns c =
     let told = c .before .before in
     let s = told .before .before .before .before in
-    rw (read (s .args .a .offset) (told .struct-told .given .1 .1 .0 .1)) at (c .before .put-record .ensures)
+    rw (read (s .args .a .offset) (search (told .struct-told .given))) at (c .before .put-record .ensures)
 
 pub put-zero-spec : {M : Type 1} → statement M
 put-zero-spec = tie.close (tie.spec (λ c. search needs) put-record-requires (λ c. search needs) returns)
