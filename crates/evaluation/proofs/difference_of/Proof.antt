@@ -1,5 +1,4 @@
 -- By the bounds of its three terms both subtractions stay within i64, so the result is exact, and its magnitude at most their sum.
-use mathlib.Core.Path.{refl}
 use native.Mathlib.Omega.{arith}
 use mir.Syntax.{w64}
 use Rattle.signed.specs.Expressions.{Ex, at, bound, sub, sized, Runs, run}
@@ -17,7 +16,7 @@ runs c = run (difference c) tt (search)
 returns : tie.Need-returns
 returns c =
     let s = c .before .before .before .before in
-    rw (runs s .value) (refl, omega (arith, sized (difference s)))
+    (runs s .value, rw (runs s .value) (omega (arith, sized (difference s))))
 
 sub-result : tie.Need-sub-result
 sub-result c = search (runs (c .before .before) .asks)

@@ -1,6 +1,8 @@
 -- Field by field: branch and verdict by their functions, and the deviation and correction are small, so that i32 holds them as they are.
+use mathlib.Core.Path.{ap, _∙_}
 use borrow.Author.Needs.{needs}
 use Rattle.signed.specs.CodeLaws.{read}
+use Rattle.rules.specs.Tool.{verdict}
 use Rattle.evaluation.proofs.Laws.{narrowed}
 use Rattle.evaluation.proofs.tool_evaluation.Statement.{statement}
 use Rattle.evaluation.proofs.tool_evaluation.Tie as tie
@@ -12,13 +14,10 @@ returns c =
     let b = v .before .before in
     let s = b .before .before .before in
     let f = s .args .f in
-    rw (
-      b .branch-number .ensures,
-      v .verdict-of .ensures,
-      narrowed (f .deviation) (s .pre .deviation) .value,
-      narrowed (f .decision .correction) (s .pre .decision .correction) .value,
-      read (f .deviation) (search (v .before .struct-told .given)),
-    )
+    let verdict-is = v .verdict-of .ensures ∙ ap (verdict (s .args .a .limits)) (read (f .deviation) (search (v .before .struct-told .given))) in
+    let deviation-is = narrowed (f .deviation) (s .pre .deviation) .value in
+    let correction-is = narrowed (f .decision .correction) (s .pre .decision .correction) .value in
+    λ i. record { branch = b .branch-number .ensures i; verdict = verdict-is i; deviation = deviation-is i; correction = correction-is i }
 
 cast-t8 : tie.Need-cast-t8
 cast-t8 c =

@@ -36,8 +36,8 @@ returns-2 : tie.Need-returns-2
 returns-2 c =
     let e = c .before .before in
     let l = e .before .before in
-    rw (passed (corrected (l .before)) (l .if1 .left), e .enum-told .given .1, runs c .value)
-    (ap (λ (d : ℤ). pos 2 *ℤ d) (c .difference-of .ensures .0), omega (arith, sized (twice c)))
+    rw (passed (corrected (l .before)) (l .if1 .left), e .enum-told .given .1)
+    (runs c .value ∙ ap (λ (d : ℤ). pos 2 *ℤ d) (c .difference-of .ensures .0), rw (runs c .value) (omega (arith, sized (twice c))))
 
 mul-result : tie.Need-mul-result
 mul-result c = search (runs c .asks)

@@ -17,12 +17,12 @@ axis s e = sym (read (s .args .a .axis) (search needs)) ∙ ap (toZ w64) e
 returns : tie.Need-returns
 returns c inside =
     let s = c .before .before .before in
-    (rw (axis s (c .before .match .keys1), read (s .args .a .c1) (search needs)), tt)
+    (rw (axis s (c .before .match .keys1)) (sym (read (s .args .a .c1) (search needs))), tt)
 
 returns-2 : tie.Need-returns-2
 returns-2 c inside =
     let s = c .before .before .before in
-    (rw (axis s (c .before .match .keys2), read (s .args .a .c2) (search needs)), tt)
+    (rw (axis s (c .before .match .keys2)) (sym (read (s .args .a .c2) (search needs))), tt)
 
 returns-3 : tie.Need-returns-3
 returns-3 c inside =

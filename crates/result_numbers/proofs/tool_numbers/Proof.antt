@@ -1,5 +1,5 @@
 -- Each entry is small, so that it is stored as it is; the array is filled entry by entry.
-use mathlib.Core.Path.{_≡_}
+use mathlib.Core.Path.{_≡_, ap, _∙_}
 use Prim.Native.Nat.{ℕ, _≤_, _<_}
 use native.Mathlib.Omega.{arith}
 use lib.IntN.{ℤ, pos, natAbs, _+ℤ_}
@@ -118,8 +118,8 @@ returns c =
       z .size-numbers .ensures,
       s .pre .0,
       read (s .args .f .ev) (search (z .before .struct-told .given)),
-      stored (raised s (s .args .a .limits .tul)) (small 0 (omega arith)) (rw (upper (n1 .before)) at (n1 .narrow .ensures)),
-      stored (raised s (s .args .a .limits .tll)) (small 1 (omega arith)) (rw (lower (n2 .before)) at (n2 .narrow2 .ensures)),
+      stored (raised s (s .args .a .limits .tul)) (small 0 (omega arith)) (n1 .narrow .ensures ∙ ap (λ (z : ℤ). toZ w64 (ofZ w64 z)) (upper (n1 .before))),
+      stored (raised s (s .args .a .limits .tll)) (small 1 (omega arith)) (n2 .narrow2 .ensures ∙ ap (λ (z : ℤ). toZ w64 (ofZ w64 z)) (lower (n2 .before))),
       stored (s .args .f .decision .correction) (small 2 (omega arith)) (n3 .narrow3 .ensures),
       stored (s .args .a .limits .tzl) (small 3 (omega arith)) (n4 .narrow4 .ensures),
       stored (s .args .a .limits .tsa) (small 4 (omega arith)) (n5 .narrow5 .ensures),

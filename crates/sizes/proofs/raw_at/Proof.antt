@@ -15,16 +15,16 @@ number : (s : tie.Start) {b : ℕ} → ofZ w64 (s .args .t .number) ≡ b → s 
 number s e = sym (read (s .args .t .number) (search needs)) ∙ ap (toZ w64) e
 
 returns : tie.Need-returns
-returns c = let s = c .before .before .before in rw (number s (c .before .match .keys1), read (s .args .q .r1) (search needs))
+returns c = let s = c .before .before .before in rw (number s (c .before .match .keys1)) (read (s .args .q .r1) (search needs))
 
 returns-2 : tie.Need-returns-2
-returns-2 c = let s = c .before .before .before in rw (number s (c .before .match .keys2), read (s .args .q .r2) (search needs))
+returns-2 c = let s = c .before .before .before in rw (number s (c .before .match .keys2)) (read (s .args .q .r2) (search needs))
 
 returns-3 : tie.Need-returns-3
-returns-3 c = let s = c .before .before .before in rw (number s (c .before .match .keys3), read (s .args .q .r3) (search needs))
+returns-3 c = let s = c .before .before .before in rw (number s (c .before .match .keys3)) (read (s .args .q .r3) (search needs))
 
 returns-4 : tie.Need-returns-4
-returns-4 c = let s = c .before .before .before in rw (number s (c .before .match .keys4), read (s .args .q .r4) (search needs))
+returns-4 c = let s = c .before .before .before in rw (number s (c .before .match .keys4)) (read (s .args .q .r4) (search needs))
 
 returns-5 : tie.Need-returns-5
 returns-5 c =

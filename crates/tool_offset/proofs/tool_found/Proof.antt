@@ -1,12 +1,13 @@
 -- The parts are those of the rules one after the other; each callee's contract says how large what it gives is.
-use mathlib.Core.Path.{_≡_}
+use mathlib.Core.Path.{_≡_, ap, ap₂, _∙_}
 use mathlib.Core.Bool.{true}
 use Prim.Native.Nat.{_≤_}
 use native.Mathlib.Omega.{arith}
-use lib.IntN.{natAbs}
+use lib.IntN.{natAbs, _+ℤ_, _*ℤ_}
 use mir.Syntax.{w16, w64}
 use Rattle.signed.specs.CodeLaws.{read, read-as, Widened, widened}
-use Rattle.rules.specs.Sizes.{numbersOk, positionsOk}
+use Rattle.rules.specs.Sizes.{difference, numbersOk, positionsOk}
+use Rattle.rules.specs.Tool.{named, weight, decided, onLength, factor, wearOn}
 use Rattle.sizes.specs.SizeLaws.{SizesSmall, sizes-small}
 use Rattle.evaluation.specs.FoundSmall.{value-size}
 use Rattle.tool_offset.proofs.Laws.{small-value, found-is}
@@ -48,10 +49,15 @@ returns c =
     let z = v .before .before .before in
     let s = start z in
     let d = dv .difference-of in
-    let decision = rw (read-as w16 (s .args .r .mean) (search (t2 .struct-told2 .given)), read (d .result) (d .ok)) at (dc .decision-of .ensures .0) in
-    let wear = rw (read (dc .decision-of .result .correction) (search (c .before .struct-told3 .given))) at (c .wear-left .ensures) in
+    let a = s .args .a in
+    let deviation = d .ensures .0 ∙ ap (difference (z .sizes-of .result .held)) (ev v .value) in
+    let decision = dc .decision-of .ensures .0
+    ∙ ap₂ (λ m n. decided (a .limits) (named a) m n (weight a)) (read-as w16 (s .args .r .mean) (search (t2 .struct-told2 .given))) (read (d .result) (d .ok)) in
+    let wear = c .wear-left .ensures
+    ∙ ap (λ n. wearOn (onLength (s .args .k) (a .probing .axis)) (s .args .r .wear) +ℤ factor (s .args .k) (a .probing .direction) *ℤ n)
+    (read (dc .decision-of .result .correction) (search (c .before .struct-told3 .given))) in
     rw (ev v .value, read (d .result) (d .ok), read (c .wear-left .result) (c .wear-left .ok)) (
-      found-is (s .args .r) (s .args .a) (s .pre .0) (k .calibrated-ok .ensures) (z .sizes-of .ensures) (rw (ev v .value) at (d .ensures .0)) decision wear,
+      found-is (s .args .r) (s .args .a) (s .pre .0) (k .calibrated-ok .ensures) (z .sizes-of .ensures) deviation decision wear,
       record { sizes = small z; ev = ev-size v; deviation = omega (arith, d .ensures .1); decision = dc .decision-of .ensures .1 },
     )
 

@@ -1,5 +1,4 @@
 -- Two cases, by the wear asked for: a wear is of 32 bits, so that as i64 it is the same number, of magnitude at most 2^31.
-use mathlib.Core.Path.{refl}
 use lib.Signed.{natAbs-le}
 use mir.Syntax.{w32, w64}
 use Rattle.signed.specs.CodeLaws.{widened}
@@ -9,14 +8,14 @@ use Rattle.wears.proofs.wear_on.Tie as tie
 returns : tie.Need-returns
 returns c =
     let w = c .before .before .before .args .w in
-    rw (widened w32 w64 (w .length) tt (search (c .struct-told .given)) .value, c .before .before .if1 .taken)
-    (refl, natAbs-le (w .length) (search (c .struct-told .given)))
+    let length = widened w32 w64 (w .length) tt (search (c .struct-told .given)) in
+    rw (c .before .before .if1 .taken) (length .value, rw (length .value) (natAbs-le (w .length) (search (c .struct-told .given))))
 
 returns-2 : tie.Need-returns-2
 returns-2 c =
     let w = c .before .before .before .args .w in
-    rw (widened w32 w64 (w .radius) tt (c .struct-told2 .given .0 .1) .value, c .before .before .if1 .left)
-    (refl, natAbs-le (w .radius) (c .struct-told2 .given .0 .1))
+    let radius = widened w32 w64 (w .radius) tt (c .struct-told2 .given .0 .1) in
+    rw (c .before .before .if1 .left) (radius .value, rw (radius .value) (natAbs-le (w .radius) (c .struct-told2 .given .0 .1)))
 
 cast-result : tie.Need-cast-result
 cast-result c = widened w32 w64 (c .before .before .before .args .w .length) tt (search (c .struct-told .given)) .fits
