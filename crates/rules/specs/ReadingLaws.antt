@@ -1,0 +1,1 @@
+-- What is known of a float's units and of the readings of a measurement.
