@@ -6,13 +6,14 @@ use borrow.Author.Needs.{needs}
 use Rattle.package.specs.declared.arguments.ToolMeasurement.{ToolMeasurement}
 use Rattle.arguments.specs.Arguments.{toolOf}
 use Rattle.rules.specs.Refusals.{first}
+use Rattle.rules.specs.Tool.{wholeTool}
 use Rattle.measuring.specs.Reply.{lentRules, tool, measuredOn}
 use Rattle.measuring.specs.ReplyLaws.{Asked, turned-away, as-many, handed-on}
 use Rattle.boundary.proofs.mezhtolik_measure_tool.Statement.{statement}
 use Rattle.boundary.proofs.mezhtolik_measure_tool.Tie as tie
 
 abbrev asked : tie.Start → Asked
-asked s = record { measurement = tool (toolOf (s .args .numbers .now)); area = s .args .area .now; results = s .args .results .now; place = s .args .place }
+asked s = record { measurement = tool (wholeTool (toolOf (s .args .numbers .now))); area = s .args .area .now; results = s .args .results .now; place = s .args .place }
 
 returns : tie.Need-returns
 returns c =
@@ -37,7 +38,7 @@ returns-2 c =
     let e = o .before .before in
     let s = e .before .before in
     let measured = m .evaluate-tool .ensures
-    ∙ ap (λ (a : ToolMeasurement). measuredOn (s .args .area .now) (tool a) (s .args .results .now) (s .args .place)) (o .tool-of .ensures) in
+    ∙ ap (λ (a : ToolMeasurement). measuredOn (s .args .area .now) (tool (wholeTool a)) (s .args .results .now) (s .args .place)) (o .tool-of .ensures) in
     rw (c .decided-by2 .ensures) (handed-on (asked s) (s .args .numbers .now) 21 (none e) measured)
 
 pub mezhtolik-measure-tool-spec : {M : Type 1} → statement M

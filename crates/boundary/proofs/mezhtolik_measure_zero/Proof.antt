@@ -6,13 +6,14 @@ use borrow.Author.Needs.{needs}
 use Rattle.package.specs.declared.arguments.ZeroMeasurement.{ZeroMeasurement}
 use Rattle.arguments.specs.Arguments.{zeroOf}
 use Rattle.rules.specs.Refusals.{first}
+use Rattle.rules.specs.Zero.{wholeZero}
 use Rattle.measuring.specs.Reply.{lentRules, zero, measuredOn}
 use Rattle.measuring.specs.ReplyLaws.{Asked, turned-away, as-many, handed-on}
 use Rattle.boundary.proofs.mezhtolik_measure_zero.Statement.{statement}
 use Rattle.boundary.proofs.mezhtolik_measure_zero.Tie as tie
 
 abbrev asked : tie.Start → Asked
-asked s = record { measurement = zero (zeroOf (s .args .numbers .now)); area = s .args .area .now; results = s .args .results .now; place = s .args .place }
+asked s = record { measurement = zero (wholeZero (zeroOf (s .args .numbers .now))); area = s .args .area .now; results = s .args .results .now; place = s .args .place }
 
 returns : tie.Need-returns
 returns c =
@@ -37,7 +38,7 @@ returns-2 c =
     let e = o .before .before in
     let s = e .before .before in
     let measured = m .evaluate-zero .ensures
-    ∙ ap (λ (a : ZeroMeasurement). measuredOn (s .args .area .now) (zero a) (s .args .results .now) (s .args .place)) (o .zero-of .ensures) in
+    ∙ ap (λ (a : ZeroMeasurement). measuredOn (s .args .area .now) (zero (wholeZero a)) (s .args .results .now) (s .args .place)) (o .zero-of .ensures) in
     rw (c .decided-by2 .ensures) (handed-on (asked s) (s .args .numbers .now) 13 (none e) measured)
 
 pub mezhtolik-measure-zero-spec : {M : Type 1} → statement M
