@@ -139,9 +139,31 @@ patterns =
 
 pub patterns-are : Each (λ p. (goodFloat (ofBits binary32 (p .bits)) ≡ p .good) × (unitsOf (ofBits binary32 (p .bits)) ≡ p .units)) patterns
 unfolding patterns goodFloat unitsOf ofBits halvesUp
-patterns-are =
-    ((refl, refl), ((refl, refl), ((refl, refl), ((refl, refl), ((refl, refl), ((refl, refl), ((refl, refl), ((refl, refl),
-    ((refl, refl), ((refl, refl), ((refl, refl), ((refl, refl), ((refl, refl), ((refl, refl), ((refl, refl), ((refl, refl), tt))))))))))))))))
+patterns-are = (
+  (refl, refl),
+  (
+    (refl, refl),
+    (
+      (refl, refl),
+      (
+        (refl, refl),
+        (
+          (refl, refl),
+          (
+            (refl, refl),
+            (
+              (refl, refl),
+              (
+                (refl, refl),
+                ((refl, refl), ((refl, refl), ((refl, refl), ((refl, refl), ((refl, refl), ((refl, refl), ((refl, refl), ((refl, refl), tt)))))))),
+              ),
+            ),
+          ),
+        ),
+      ),
+    ),
+  ),
+)
 
 -- the next floats beyond 1000.0 and -1000.0
 pub beyond : Each (λ b. goodFloat (ofBits binary32 b) ≡ false) (0x447a0001 ∷ 0xc47a0001 ∷ [])
