@@ -62,6 +62,9 @@ fn damage_parts(rng: &mut Rng, line: &[u8]) -> Vec<u8> {
     join(&parts)
 }
 
+/// Bytes next to the digits of a float, and some that stand in other numbers.
+const OTHER_DIGITS: [&str; 9] = ["/", ":", "@", "A", "`", "g", "-", " ", "x"];
+
 /// Changes the digits of one raw of a G line: capitals, seven, nine, a sign,
 /// other bytes among them, a number.
 fn damage_digits(rng: &mut Rng, line: &[u8]) -> Vec<u8> {
@@ -73,12 +76,8 @@ fn damage_digits(rng: &mut Rng, line: &[u8]) -> Vec<u8> {
         2 => raw[1..].to_owned(),
         3 => format!("{raw}0"),
         4 => format!("0{raw}"),
-        5 => format!("{}{}", rng.pick(&["-", "+", " ", "x"]), &raw[1..]),
-        6 => format!(
-            "{}{}",
-            &raw[..7],
-            rng.pick(&["g", "A", "/", ":", "@", "`", "-"])
-        ),
+        5 => format!("{}{}", rng.pick(&["-", "+"]), &raw[1..]),
+        6 => format!("{}{}", &raw[..7], rng.pick(&OTHER_DIGITS)),
         _ => rng.between(-99_999_999, 99_999_999).to_string(),
     };
     join(&parts)
@@ -141,7 +140,7 @@ pub fn damage(rng: &mut Rng, line: &[u8]) -> Vec<u8> {
             let length = rng.pick(&[199, 200, 201, 202, 203, 211]);
             line_of_length(rng, length)
         }
-        1..=4 if line.starts_with(b"G,") => damage_digits(rng, line),
+        1..=6 if line.starts_with(b"G,") => damage_digits(rng, line),
         1..=4 => damage_bytes(rng, line),
         _ => damage_parts(rng, line),
     }
