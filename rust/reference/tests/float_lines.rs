@@ -59,6 +59,34 @@ fn the_worked_job_with_floats() {
     );
 }
 
+/// Fields that are not eight lower-case hexadecimal digits.
+const OTHER_FORMS: [&str; 24] = [
+    "",
+    "0",
+    "-0",
+    "0000000",
+    "000000000",
+    "-0000000",
+    "+0000000",
+    " 0000000",
+    "0000000 ",
+    "0x000000",
+    "7FC00000",
+    "7fC00000",
+    "0000000A",
+    "0000000F",
+    "0000000g",
+    "0000000/",
+    "0000000:",
+    "0000000@",
+    "0000000`",
+    "0000000G",
+    "0000000\r",
+    "0000.000",
+    "\u{e9}000000",
+    "\u{661}000000",
+];
+
 #[test]
 fn digits() {
     for (field, bits) in [
@@ -72,32 +100,7 @@ fn digits() {
         assert_eq!(read_bits(field.as_bytes()), Some(bits), "{field}");
         assert_eq!(format!("{bits:08x}"), field);
     }
-    for field in [
-        "",
-        "0",
-        "-0",
-        "0000000",
-        "000000000",
-        "-0000000",
-        "+0000000",
-        " 0000000",
-        "0000000 ",
-        "0x000000",
-        "7FC00000",
-        "7fC00000",
-        "0000000A",
-        "0000000F",
-        "0000000g",
-        "0000000/",
-        "0000000:",
-        "0000000@",
-        "0000000`",
-        "0000000G",
-        "0000000\r",
-        "0000.000",
-        "\u{e9}000000",
-        "\u{661}000000",
-    ] {
+    for field in OTHER_FORMS {
         assert_eq!(read_bits(field.as_bytes()), None, "{field:?}");
         // "for used and unused raws alike"
         for place in 0..4 {

@@ -69,7 +69,6 @@ fn worked_conversions() {
         (0x4479_ffff, Some(9_999_999)),
         (0x447a_0000, Some(10_000_000)),
         (0x447a_0001, None),
-        (0x447a_0002, None),
         (0x7f7f_ffff, None),
         // infinite, and no number
         (0x7f80_0000, None),

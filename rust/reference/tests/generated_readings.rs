@@ -206,23 +206,29 @@ fn jobs_have_g_lines_with_every_refusal_and_kind() {
     assert!(kinds.values().all(|&often| often > 100), "{kinds:?}");
 }
 
-/// Raws of malformed G lines with the right number of fields, by what is wrong
-/// with their digits and whether the kind uses them.
+/// What is wrong with the digits of a raw.
+fn wrong_digits(raw: &str) -> Option<&'static str> {
+    let digits = raw.bytes().all(|byte| byte.is_ascii_hexdigit());
+    let capitals = raw.bytes().any(|byte| byte.is_ascii_uppercase());
+    match raw.len() {
+        8 if digits && !capitals => None,
+        8 if digits => Some("capitals"),
+        8 if raw.starts_with(['-', '+']) => Some("sign"),
+        7 if digits && !capitals => Some("seven"),
+        9 if digits && !capitals => Some("nine"),
+        _ => Some("other"),
+    }
+}
+
+/// Raws of G lines with the right number of fields, by what is wrong with their
+/// digits and whether the kind uses them.
 #[test]
 fn digits_are_damaged_in_every_way() {
     let mut found: BTreeMap<(&str, bool), usize> = BTreeMap::new();
-    for line in (0..800).flat_map(|seed| {
-        let lines: Vec<Vec<u8>> = job(seed)
-            .split(|&byte| byte == b'\n')
-            .map(Vec::from)
-            .collect();
-        lines
-    }) {
-        let Ok(text) = String::from_utf8(line) else {
-            continue;
-        };
-        let fields: Vec<&str> = text.split(',').skip(1).collect();
-        if !text.starts_with("G,") || fields.len() != 21 {
+    let texts = (0..800).map(|seed| String::from_utf8_lossy(&job(seed)).into_owned());
+    for line in texts.flat_map(|text| text.lines().map(str::to_owned).collect::<Vec<_>>()) {
+        let fields: Vec<&str> = line.split(',').skip(1).collect();
+        if !line.starts_with("G,") || fields.len() != 21 {
             continue;
         }
         let used = match fields[0] {
@@ -232,17 +238,9 @@ fn digits_are_damaged_in_every_way() {
             _ => continue,
         };
         for (index, raw) in fields[RAWS].iter().enumerate() {
-            let digits = raw.bytes().all(|byte| byte.is_ascii_hexdigit());
-            let capitals = raw.bytes().any(|byte| byte.is_ascii_uppercase());
-            let wrong = match raw.len() {
-                8 if digits && !capitals => continue,
-                8 if digits => "capitals",
-                8 if raw.starts_with(['-', '+']) => "sign",
-                7 if digits && !capitals => "seven",
-                9 if digits && !capitals => "nine",
-                _ => "other",
-            };
-            *found.entry((wrong, index < used)).or_default() += 1;
+            if let Some(wrong) = wrong_digits(raw) {
+                *found.entry((wrong, index < used)).or_default() += 1;
+            }
         }
     }
     for wrong in ["capitals", "sign", "seven", "nine", "other"] {

@@ -209,63 +209,74 @@ fn unused_floats_are_not_looked_at() {
     assert_eq!(refusal('C', &CALIBRATION, &[(0, only(1, 0x3d8f_5c29))]), 0);
 }
 
-/// "after 2 and before 3"; a whole reading "beyond ±10,000,000 is 3, a bad float
-/// 13; with both, 13".
-#[test]
-fn thirteen_stands_after_2_and_before_3() {
-    let bad = [(0, report([NAN; 3]))];
-    let beyond = [(1, Reading::Whole(10_000_001))];
-    let both = [bad[0], beyond[0]];
-    let tool = |changes: &[(usize, i64)]| refusal('T', &with(GROOVE, changes), &bad);
-    for changes in [
-        (at::KIND, 5),
-        (at::KIND, 103),
-        (at::PROBE, 0),
-        (at::AXIS, 3),
-        (at::TOOL, 33),
-        (at::EV, 21),
-        (at::MV, -1),
-    ] {
-        assert_eq!(tool(&[changes]), 2, "{changes:?}");
+/// "after 2 and before 3": what a bad float gives with each of these changes.
+fn check_order<const N: usize>(letter: char, fields: [i64; N], rows: &[((usize, i64), u8)]) {
+    let bad = (0, report([NAN; 3]));
+    for (change, number) in rows {
+        let found = refusal(letter, &with(fields, &[*change]), &[bad]);
+        assert_eq!(found, *number, "{letter} with {change:?}");
     }
-    for changes in [
-        (at::SETPOINT, 0),
-        (at::C1, -10_000_001),
-        (at::K, 0),
-        (at::TZL, -1),
-        (at::TSA, 1),
-    ] {
-        assert_eq!(tool(&[changes]), 13, "{changes:?}");
-    }
-    assert_eq!(refusal('T', &GROOVE, &both), 13);
-    assert_eq!(refusal('T', &GROOVE, &beyond), 3);
+}
 
-    let zero = |changes: &[(usize, i64)]| refusal('Z', &with(ZERO_GROOVE, changes), &bad);
-    for changes in [
-        (at::KIND, 3),
-        (at::PROBE, 4),
-        (at::AXIS, 0),
-        (at::OFFSET, 5),
-    ] {
-        assert_eq!(zero(&[changes]), 2, "{changes:?}");
+#[test]
+fn thirteen_in_a_measurement_with_tool_offset() {
+    let rows = [
+        ((at::KIND, 5), 2),
+        ((at::KIND, 103), 2),
+        ((at::PROBE, 0), 2),
+        ((at::AXIS, 3), 2),
+        ((at::TOOL, 33), 2),
+        ((at::EV, 21), 2),
+        ((at::MV, -1), 2),
+        ((at::SETPOINT, 0), 13),
+        ((at::C1, -10_000_001), 13),
+        ((at::K, 0), 13),
+        ((at::TZL, -1), 13),
+        ((at::TSA, 1), 13),
+    ];
+    check_order('T', GROOVE, &rows);
+}
+
+#[test]
+fn thirteen_in_a_measurement_with_zero_offset() {
+    let rows = [
+        ((at::KIND, 3), 2),
+        ((at::PROBE, 4), 2),
+        ((at::AXIS, 0), 2),
+        ((at::OFFSET, 5), 2),
+        ((at::SETPOINT, 0), 13),
+        ((at::C1, 10_000_001), 13),
+        ((at::ZERO_TSA, -1), 13),
+    ];
+    check_order('Z', ZERO_GROOVE, &rows);
+}
+
+/// A whole reading beyond ±10,000,000 is 3, a bad float 13; with both, 13.
+#[test]
+fn both_forms_in_one_call() {
+    let bad = (0, report([NAN; 3]));
+    let beyond = (1, Reading::Whole(10_000_001));
+    for (letter, fields) in [('T', &GROOVE[..]), ('Z', &ZERO_GROOVE)] {
+        assert_eq!(refusal(letter, fields, &[bad]), 13);
+        assert_eq!(refusal(letter, fields, &[beyond]), 3);
+        assert_eq!(refusal(letter, fields, &[bad, beyond]), 13);
     }
-    for changes in [(at::SETPOINT, 0), (at::C1, 10_000_001), (at::ZERO_TSA, -1)] {
-        assert_eq!(zero(&[changes]), 13, "{changes:?}");
-    }
-    assert_eq!(refusal('Z', &ZERO_GROOVE, &both), 13);
-    assert_eq!(refusal('Z', &ZERO_GROOVE, &beyond), 3);
 }
 
 #[test]
 fn thirteen_in_a_calibration() {
+    let rows = [
+        ((0, 4), 2),
+        ((1, 0), 2),
+        ((1, 4), 2),
+        ((2, 2), 2),
+        ((3, 10_000_001), 13),
+        ((5, -1), 13),
+        ((6, 9), 13),
+        ((6, 1_000_001), 13),
+    ];
+    check_order('C', CALIBRATION, &rows);
     let bad = [(0, report([NAN; 3]))];
-    let calibration = |changes: &[(usize, i64)]| refusal('C', &with(CALIBRATION, changes), &bad);
-    for changes in [(0, 4), (1, 0), (1, 4), (2, 2)] {
-        assert_eq!(calibration(&[changes]), 2, "{changes:?}");
-    }
-    for changes in [(3, 10_000_001), (5, -1), (6, 9), (6, 1_000_001)] {
-        assert_eq!(calibration(&[changes]), 13, "{changes:?}");
-    }
     let mut package = Package::fresh();
     package.apply(&with_readings('C', &CALIBRATION, &bad));
     assert_eq!(package, Package::fresh(), "a refused calibration");
