@@ -2,13 +2,13 @@
 mod report;
 
 use area::AREA;
+use fresh_area::fresh;
 use job_limits::JOB_LIMIT;
 use job_limits::LINE_ROOM;
 use job_limits::LINES_LIMIT;
 use jobs::run_job;
 use libc::STDOUT_FILENO;
 use package::refusals::DONE;
-use settings::fresh;
 
 // One byte more than a job may have, so that a longer one is seen.
 const READ: usize = JOB_LIMIT + 1;

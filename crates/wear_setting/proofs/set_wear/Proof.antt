@@ -15,8 +15,8 @@ use Rattle.rules.specs.Settings.{wearRules}
 use Rattle.rules.specs.Calls.{Call, setWear}
 use Rattle.rules.specs.Passed.{wears-passed}
 use Rattle.area.specs.CalledLaws.{call-wrong, call-refused, call-done}
-use Rattle.settings.proofs.set_wear.Statement.{statement}
-use Rattle.settings.proofs.set_wear.Tie as tie
+use Rattle.wear_setting.proofs.set_wear.Statement.{statement}
+use Rattle.wear_setting.proofs.set_wear.Tie as tie
 
 abbrev call : tie.Start → Call
 call s = setWear (s .args .tool) (s .args .radius) (s .args .length)

@@ -16,8 +16,8 @@ use Rattle.rules.specs.Settings.{offsetRules}
 use Rattle.rules.specs.Calls.{Call, setOffset}
 use Rattle.rules.specs.Passed.{offset-passed}
 use Rattle.area.specs.CalledLaws.{call-wrong, call-refused, call-done}
-use Rattle.settings.proofs.set_offset.Statement.{statement}
-use Rattle.settings.proofs.set_offset.Tie as tie
+use Rattle.zero_setting.proofs.set_offset.Statement.{statement}
+use Rattle.zero_setting.proofs.set_offset.Tie as tie
 
 abbrev call : tie.Start → Call
 call s = setOffset (s .args .offset) (s .args .v1) (s .args .v2) (s .args .v3)

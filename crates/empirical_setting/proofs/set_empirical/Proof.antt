@@ -12,8 +12,8 @@ use Rattle.signed.specs.RangeLaws.{or-zero}
 use Rattle.rules.specs.Stores.{valueNumber, valueRange}
 use Rattle.rules.specs.Calls.{Call, setEmpirical}
 use Rattle.area.specs.CalledLaws.{call-wrong, call-refused, call-done}
-use Rattle.settings.proofs.set_empirical.Statement.{statement}
-use Rattle.settings.proofs.set_empirical.Tie as tie
+use Rattle.empirical_setting.proofs.set_empirical.Statement.{statement}
+use Rattle.empirical_setting.proofs.set_empirical.Tie as tie
 
 abbrev call : tie.Start → Call
 call s = setEmpirical (s .args .ev) (s .args .value)

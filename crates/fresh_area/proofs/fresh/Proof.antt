@@ -9,8 +9,8 @@ use borrow.Author.Needs.{needs}
 use Rattle.lists.specs.Written.{written}
 use Rattle.area.specs.Called.{freshArea}
 use Rattle.area.specs.CalledLaws.{fresh-wrong, fresh-done}
-use Rattle.settings.proofs.fresh.Statement.{statement}
-use Rattle.settings.proofs.fresh.Tie as tie
+use Rattle.fresh_area.proofs.fresh.Statement.{statement}
+use Rattle.fresh_area.proofs.fresh.Tie as tie
 
 all-written : (zs xs : List ℤ) → length xs ≡ length zs → written zs 0 xs ≡ xs
 unfolding written
