@@ -10,9 +10,9 @@ use Rattle.signed.specs.RangeLaws.{or-zero}
 use Rattle.rules.specs.Stores.{probeNumber}
 use Rattle.rules.specs.Status.{statusAnswer}
 use Rattle.area.specs.Table.{statusFrom}
-use Rattle.calibrating.specs.StatusLaws.{status-wrong, status-refused, status-done}
-use Rattle.calibrating.proofs.probe_status.Statement.{statement}
-use Rattle.calibrating.proofs.probe_status.Tie as tie
+use Rattle.status_reading.specs.StatusLaws.{status-wrong, status-refused, status-done}
+use Rattle.status_reading.proofs.probe_status.Statement.{statement}
+use Rattle.status_reading.proofs.probe_status.Tie as tie
 
 returns : tie.Need-returns
 returns c = let s = c .before .before in c .no-status .ensures ∙ status-wrong (s .args .area .now) (c .before .if1 .taken) (s .args .probe)

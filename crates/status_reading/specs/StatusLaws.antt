@@ -12,7 +12,7 @@ use Rattle.rules.specs.Status.{statusAnswer, statusRead}
 use Rattle.layout.specs.Layout.{recordOf}
 use Rattle.area.specs.Table.{areaLength, sectionOf, statusFrom}
 use Rattle.area.specs.RecordLaws.{at-held}
-use Rattle.calibrating.specs.StatusRead.{noStatus, statusCalled}
+use Rattle.status_reading.specs.StatusRead.{noStatus, statusCalled}
 
 module _ (area : List ℤ) where
   pub status-wrong : (length area ≡ areaLength → ⊥) → (probe : ℤ) → noStatus 100 ≡ statusCalled area probe
