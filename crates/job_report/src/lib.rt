@@ -1,4 +1,4 @@
-// One line on standard error: what is wrong and what to do.
+// What the job program says of a job that it cannot run: one line on standard error, what is wrong and what to do.
 use job_limits::JOB_LIMIT;
 use libc::STDERR_FILENO;
 use package::refusals::EMPTY_JOB;

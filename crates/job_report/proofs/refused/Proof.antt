@@ -3,8 +3,8 @@ use mathlib.Core.Path.{_≡_}
 use native.Mathlib.Omega.{arith}
 use lib.ListN.{length}
 use borrow.Author.Needs.{needs}
-use Rattle.measure.proofs.report.refused.Statement.{statement}
-use Rattle.measure.proofs.report.refused.Tie as tie
+use Rattle.job_report.proofs.refused.Statement.{statement}
+use Rattle.job_report.proofs.refused.Tie as tie
 
 wrong-job-requires : tie.Need-wrong-job-requires
 wrong-job-requires c κs =
