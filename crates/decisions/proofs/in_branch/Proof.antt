@@ -9,8 +9,8 @@ use Rattle.signed.specs.CodeLaws.{read}
 use Rattle.package.specs.declared.found.Branch.{Branch}
 use Rattle.package.specs.declared.found.Branch.the-variants.{One, Two, Three, Four, Five}
 use Rattle.rules.specs.Tool.{branchNumber}
-use Rattle.tolerance.proofs.in_branch.Statement.{statement}
-use Rattle.tolerance.proofs.in_branch.Tie as tie
+use Rattle.decisions.proofs.in_branch.Statement.{statement}
+use Rattle.decisions.proofs.in_branch.Tie as tie
 
 one-to-five : (b : Branch) → (1 ≤ branchNumber b) × (branchNumber b ≤ 5)
 one-to-five One = omega arith

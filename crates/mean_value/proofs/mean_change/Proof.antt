@@ -8,8 +8,8 @@ use Rattle.signed.specs.CodeLaws.{read}
 use Rattle.signed.specs.Expressions.{Ex, at, sub, Runs, run, sized}
 use Rattle.signed.specs.Rounding.{roundedQuotient}
 use Rattle.rules.specs.Mean.{meanRounding, meanChange}
-use Rattle.tolerance.proofs.mean_change.Statement.{statement}
-use Rattle.tolerance.proofs.mean_change.Tie as tie
+use Rattle.mean_value.proofs.mean_change.Statement.{statement}
+use Rattle.mean_value.proofs.mean_change.Tie as tie
 
 abbrev difference : (c : tie.Start) → Ex w64
 difference c = sub (at (c .args .m) 100000000 (c .fits .m) (c .pre .0 .0)) (at (c .args .d) 100000000 (c .fits .d) (c .pre .0 .1))

@@ -2,8 +2,8 @@
 use mathlib.Core.Path.{_≡_, refl}
 use borrow.Author.Needs.{needs}
 use Rattle.package.specs.declared.found.Branch.the-variants.{One, Two, Three, Four, Five}
-use Rattle.tolerance.proofs.branch_number.Statement.{statement}
-use Rattle.tolerance.proofs.branch_number.Tie as tie
+use Rattle.branches.proofs.branch_number.Statement.{statement}
+use Rattle.branches.proofs.branch_number.Tie as tie
 
 returns : tie.Need-returns
 returns c = let e : c .before .before .args .b ≡ One = search needs in rw e refl
