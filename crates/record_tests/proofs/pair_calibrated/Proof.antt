@@ -7,8 +7,8 @@ use borrow.Author.Needs.{needs}
 use Rattle.signed.specs.CodeLaws.{read}
 use Rattle.rules.specs.Probes.{on, calibratedIn}
 use Rattle.kinds.specs.Touches.{touch}
-use Rattle.kind_tests.proofs.pair_calibrated.Statement.{statement}
-use Rattle.kind_tests.proofs.pair_calibrated.Tie as tie
+use Rattle.record_tests.proofs.pair_calibrated.Statement.{statement}
+use Rattle.record_tests.proofs.pair_calibrated.Tie as tie
 
 -- what the code reads of a touch
 module _ (s : tie.Start) where

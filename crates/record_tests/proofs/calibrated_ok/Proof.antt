@@ -13,8 +13,8 @@ use Rattle.rules.specs.Sizes.{Across, Touch, pairs, calibratedOk}
 use Rattle.kinds.specs.Touches.{Placed, across}
 use Rattle.kinds.specs.KindLaws.{plane-numbers, pairs-placed}
 use Rattle.kinds.proofs.Laws.{head-same, next-same}
-use Rattle.kind_tests.proofs.calibrated_ok.Statement.{statement}
-use Rattle.kind_tests.proofs.calibrated_ok.Tie as tie
+use Rattle.record_tests.proofs.calibrated_ok.Statement.{statement}
+use Rattle.record_tests.proofs.calibrated_ok.Tie as tie
 
 -- the test by the form
 module _ (status : ℕ) (k : Kind) (a : Probing) where
