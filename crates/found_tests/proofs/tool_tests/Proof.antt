@@ -10,8 +10,8 @@ use Rattle.signed.specs.CodeLaws.{read}
 use Rattle.package.specs.declared.found.Kind.{Kind}
 use Rattle.rules.specs.Stores.{wearRange}
 use Rattle.rules.specs.Sizes.{pairsOk}
-use Rattle.tool_offset.proofs.tool_tests.Statement.{statement}
-use Rattle.tool_offset.proofs.tool_tests.Tie as tie
+use Rattle.found_tests.proofs.tool_tests.Statement.{statement}
+use Rattle.found_tests.proofs.tool_tests.Tie as tie
 
 magnitude-requires : tie.Need-magnitude-requires
 magnitude-requires c κs =
