@@ -5,10 +5,10 @@ use Prim.Native.Nat.{_+_, _≤_, _-_}
 use native.Mathlib.Omega.{arith}
 use borrow.Author.Needs.{needs}
 use lib.ListN.{length, drop}
 use Rattle.text.specs.Pieces.{lines}
 use Rattle.text.specs.PieceLaws.{lines-end, count-feed, count-other}
-use Rattle.text.proofs.count_block.Statement.{statement}
-use Rattle.text.proofs.count_block.Tie as tie
+use Rattle.line_counts.proofs.count_block.Statement.{statement}
+use Rattle.line_counts.proofs.count_block.Tie as tie
 
 abbrev Inv-loop : tie.InvT-loop
 Inv-loop s n₀ i₀ n i = (i ≤ length s) × (n ≤ i) × (length (lines s) ≡ n + length (lines (drop i s)))
