@@ -8,8 +8,8 @@ use Rattle.arguments.specs.Arguments.{toolOf}
 use Rattle.rules.specs.Refusals.{first}
 use Rattle.measuring.specs.Reply.{lentRules, tool, measuredOn}
 use Rattle.measuring.specs.ReplyLaws.{Asked, turned-away, as-many, handed-on}
-use Rattle.boundary.proofs.mezhtolik_measure_tool.Statement.{statement}
-use Rattle.boundary.proofs.mezhtolik_measure_tool.Tie as tie
+use Rattle.lent_measuring.proofs.measure_tool.Statement.{statement}
+use Rattle.lent_measuring.proofs.measure_tool.Tie as tie
 
 abbrev asked : tie.Start → Asked
 asked s = record { measurement = tool (toolOf (s .args .numbers .now)); area = s .args .area .now; results = s .args .results .now; place = s .args .place }
@@ -40,8 +40,8 @@ returns-2 c =
     ∙ ap (λ (a : ToolMeasurement). measuredOn (s .args .area .now) (tool a) (s .args .results .now) (s .args .place)) (o .tool-of .ensures) in
     rw (c .decided-by2 .ensures) (handed-on (asked s) (s .args .numbers .now) 21 (none e) measured)
 
-pub mezhtolik-measure-tool-spec : {M : Type 1} → statement M
-mezhtolik-measure-tool-spec =
+pub measure-tool-spec : {M : Type 1} → statement M
+measure-tool-spec =
     tie.close
     (tie.spec (λ c κs. search needs) (λ c κs. search needs) (λ c κs. search needs) returns tool-of-requires (λ c κs. search needs) (λ c κs. search needs)
     (λ c. search needs)

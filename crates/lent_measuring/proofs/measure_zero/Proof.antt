@@ -8,8 +8,8 @@ use Rattle.arguments.specs.Arguments.{zeroOf}
 use Rattle.rules.specs.Refusals.{first}
 use Rattle.measuring.specs.Reply.{lentRules, zero, measuredOn}
 use Rattle.measuring.specs.ReplyLaws.{Asked, turned-away, as-many, handed-on}
-use Rattle.boundary.proofs.mezhtolik_measure_zero.Statement.{statement}
-use Rattle.boundary.proofs.mezhtolik_measure_zero.Tie as tie
+use Rattle.lent_measuring.proofs.measure_zero.Statement.{statement}
+use Rattle.lent_measuring.proofs.measure_zero.Tie as tie
 
 abbrev asked : tie.Start → Asked
 asked s = record { measurement = zero (zeroOf (s .args .numbers .now)); area = s .args .area .now; results = s .args .results .now; place = s .args .place }
@@ -40,8 +40,8 @@ returns-2 c =
     ∙ ap (λ (a : ZeroMeasurement). measuredOn (s .args .area .now) (zero a) (s .args .results .now) (s .args .place)) (o .zero-of .ensures) in
     rw (c .decided-by2 .ensures) (handed-on (asked s) (s .args .numbers .now) 13 (none e) measured)
 
-pub mezhtolik-measure-zero-spec : {M : Type 1} → statement M
-mezhtolik-measure-zero-spec =
+pub measure-zero-spec : {M : Type 1} → statement M
+measure-zero-spec =
     tie.close
     (tie.spec (λ c κs. search needs) (λ c κs. search needs) (λ c κs. search needs) returns zero-of-requires (λ c κs. search needs) (λ c κs. search needs)
     (λ c. search needs)
