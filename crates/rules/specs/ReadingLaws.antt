@@ -1,11 +1,12 @@
 -- What is known of the units of a float, the readings that a kind uses, and bit patterns at the edges of request 2026-01.
 use mathlib.Core.Path.{_≡_, refl, _∙_}
-use mathlib.Core.Bool.{Bool, true, false, _&&_}
+use mathlib.Core.Bool.{Bool, true, false, cond, _&&_}
 use mathlib.Core.List.{List, [], _∷_}
 use Prim.Native.Nat.{ℕ, suc, _+_, _-_, _*_, _≤_, _<_}
 use native.Mathlib.Omega.{arith}
 use native.Mathlib.Nat.{div-add-mod', mod-lt, div-lt-iff-lt-mul}
 use borrow.Author.Tests.{leb-true}
+use lib.Dec.{eqb}
 use lib.Ieee.{Float, nan, inf, fin, up, down, ofBits, binary32}
 use lib.Ieee.Fits.{down-pos}
 use lib.IntN.{ℤ, pos, natAbs, _-ℤ_, _*ℤ_}
@@ -169,3 +170,8 @@ patterns-are = (
 pub beyond : Each (λ b. goodFloat (ofBits binary32 b) ≡ false) (0x447a0001 ∷ 0xc47a0001 ∷ [])
 unfolding goodFloat ofBits
 beyond = (refl, (refl, tt))
+
+-- ---- the refusal where a used float is not good: 2 where it is 2 with any whole positions, else 13
+pub by-numbers : (numbers : Bool) (n : ℕ) → eqb n 2 ≡ false → _≡_ {A = ℕ} (cond (eqb (cond numbers n 2) 2) 2 13) (cond numbers 13 2)
+by-numbers true n e = rw e
+by-numbers false n e = refl

@@ -1,20 +1,25 @@
 -- Request 2026-01: a call with readings whose used floats are good is the call with the positions that they give.
-use mathlib.Core.Path.{_≡_, refl, ap, _∙_}
-use mathlib.Core.Bool.{Bool, true, cond}
+use mathlib.Core.Path.{_≡_, refl, sym, ap, _∙_}
+use mathlib.Core.Bool.{Bool, true, false, cond, _&&_}
 use mathlib.Core.List.{List, _∷_}
 use Prim.Native.Nat.{ℕ}
 use lib.Dec.{eqb}
-use lib.IntN.{ℤ}
+use lib.IntN.{ℤ, pos}
+use native.Mathlib.Omega.{arith}
+use Rattle.signed.specs.Ranges.{within}
 use Rattle.package.specs.declared.arguments.CalibrationReading.{CalibrationReading}
+use Rattle.package.specs.declared.arguments.Raws.{Raws}
 use Rattle.package.specs.declared.arguments.ToolReadings.{ToolReadings}
 use Rattle.package.specs.declared.arguments.ZeroReadings.{ZeroReadings}
 use Rattle.package.specs.declared.found.Evaluation.{Evaluation}
 use Rattle.rules.specs.Refusals.{Rule, first}
 use Rattle.rules.specs.Stores.{Package, probes, at}
-use Rattle.rules.specs.Calibration.{calibrationRulesWith, triggerFor, calibrationAt, goodCalibration}
+use Rattle.rules.specs.Calibration.{calibrationNumbers, calibrationPositions, calibrationLimits, calibrationArguments, calibrationArgumentsWith, calibrationRulesWith, triggerFor, calibrationWith, calibrationAt, goodCalibration}
+use Rattle.rules.specs.Sizes.{positionsOk}
+use Rattle.rules.specs.ReadingLaws.{by-numbers}
 use Rattle.rules.specs.Measuring.{room}
-use Rattle.rules.specs.Tool.{toolRulesWith, toolAt, goodTool, wholeTool}
-use Rattle.rules.specs.Zero.{zeroRulesWith, zeroAt, goodZero, wholeZero}
+use Rattle.rules.specs.Tool.{toolNumbers, toolPositions, limitsOk, toolArguments, toolArgumentsWith, toolRulesWith, toolWith, toolAt, goodTool, wholeTool}
+use Rattle.rules.specs.Zero.{zeroKindOf, zeroNumbers, zeroArguments, zeroArgumentsWith, zeroRulesWith, zeroWith, zeroAt, goodZero, wholeZero}
 use Rattle.rules.specs.Results.{evaluatedBy, toolResults, zeroResults}
 use Rattle.rules.specs.Changes.{Change, Reckoned, madeAll}
 use Rattle.rules.specs.Calls.{Call, calibrateReading, measureToolReadings, measureZeroReadings, calibrate, measureTool, measureZero, meaning, toolRead, zeroRead, rules, changes, reckoned, done, refusal, step, evaluation}
@@ -84,3 +89,41 @@ calibration-whole t good =
       evaluation-same = λ p. refl;
       reckoned-same = λ p. refl;
     }
+
+-- ---- where a used float is not good: 2 where it is 2 with any whole positions, else 13
+later : (positions limits : Bool) → eqb (cond positions (cond limits 0 4) 3) 2 ≡ false
+later true true = refl
+later true false = refl
+later false limits = refl
+
+pub some-refusal : (n : ℕ) → _≡_ {A = ℕ} (cond (eqb n 2) 2 13) 0 → ⊥
+some-refusal n = go (eqb n 2)
+  where
+    go : (b : Bool) → _≡_ {A = ℕ} (cond b 2 13) 0 → ⊥
+    go true e = omega (arith, e)
+    go false e = omega (arith, e)
+
+pub tool-unread : (t : ToolReadings) (raws : Raws) → goodTool t ≡ false
+    → cond (eqb (first (toolArguments (toolWith t raws))) 2) 2 13 ≡ first (toolArgumentsWith (goodTool t) (toolAt t))
+unfolding toolArgumentsWith
+tool-unread t raws bad =
+    by-numbers (toolNumbers (toolAt t)) (cond (toolPositions (toolWith t raws)) (cond (limitsOk (t .limits)) 0 4) 3)
+    (later (toolPositions (toolWith t raws)) (limitsOk (t .limits)))
+    ∙ ap (λ (b : Bool). first (toolArgumentsWith b (toolAt t))) (sym bad)
+
+pub zero-unread : (t : ZeroReadings) (raws : Raws) → goodZero t ≡ false
+    → cond (eqb (first (zeroArguments (zeroWith t raws))) 2) 2 13 ≡ first (zeroArgumentsWith (goodZero t) (zeroAt t))
+unfolding zeroArgumentsWith
+zero-unread t raws bad =
+    let positions = positionsOk (zeroKindOf (zeroAt t)) (t .probing) raws in
+    let tsa = within (pos 0) (pos 1000000) (t .tsa) in
+    by-numbers (zeroNumbers (zeroAt t)) (cond positions (cond tsa 0 4) 3) (later positions tsa)
+    ∙ ap (λ (b : Bool). first (zeroArgumentsWith b (zeroAt t))) (sym bad)
+
+pub calibration-unread : (t : CalibrationReading) (raw : ℤ) → goodCalibration t ≡ false
+    → cond (eqb (first (calibrationArguments (calibrationWith t raw))) 2) 2 13 ≡ first (calibrationArgumentsWith (goodCalibration t) (calibrationAt t))
+unfolding calibrationArgumentsWith
+calibration-unread t raw bad =
+    let given = calibrationPositions (calibrationWith t raw) && calibrationLimits (calibrationAt t) in
+    by-numbers (calibrationNumbers (calibrationAt t)) (cond given (cond true 0 4) 3) (later given true)
+    ∙ ap (λ (b : Bool). first (calibrationArgumentsWith b (calibrationAt t))) (sym bad)
