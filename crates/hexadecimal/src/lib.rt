@@ -1,5 +1,5 @@
 // The bits of a float, in hexadecimal digits at the front of a field. Request 2026-01.
-use std::num::wrapping_sub_u32;
+use std::num::wrapping_sub_u8;
 use text::Field;
 use text::NOUGHT;
 ghost use mathlib.Core.Path.{_≡_};
@@ -13,17 +13,17 @@ const SMALL_A: u8 = b'a';
 // How many digits a float's bits have.
 const DIGITS: usize = 8;
 
-// What a digit spells, 16 where the byte is none.
-fn digit_of(b: u8) -> u64
+// What a digit spells, 16 where the byte is none: in a byte, so that the eight digits of a number are taken at once.
+fn digit_of(b: u8) -> u8
     ensures { λ r. ⌜ (r ≡ digitOf b) × (r ≤ 16) ⌝ }
 {
-    let d = wrapping_sub_u32(b as u32, NOUGHT as u32);
+    let d = wrapping_sub_u8(b, NOUGHT);
     if d <= 9 {
-        return d as u64;
+        return d;
     }
-    let e = wrapping_sub_u32(b as u32, SMALL_A as u32);
+    let e = wrapping_sub_u8(b, SMALL_A);
     if e <= 5 {
-        return (e + 10) as u64;
+        return e + 10;
     }
     16
 }
@@ -41,7 +41,7 @@ pub fn read_hexadecimal(rest: &[u8]) -> Field
     let mut i: usize = 0;
     while i < DIGITS {
         let d = digit_of(rest[i]);
-        n = 16 * n + d;
+        n = 16 * n + d as u64;
         if 15 < d {
             good = false;
         }

@@ -60,8 +60,8 @@ loop-again c =
           (c .if2 .came),
     )
 
-cast-t12 : tie.Need-cast-t12 Inv-loop μ-loop
-cast-t12 c = let l = c .before .before in omega (arith, power l, l .loop .inv .2 .small)
+cast-t13 : tie.Need-cast-t13 Inv-loop μ-loop
+cast-t13 c = let l = c .before .before in omega (arith, power l, l .loop .inv .2 .small)
 
 returns-2 : tie.Need-returns-2 Inv-loop μ-loop
 returns-2 c =
@@ -80,5 +80,5 @@ returns-3 c =
 pub read-hexadecimal-spec : {M : Type 1} → statement M
 read-hexadecimal-spec =
     tie.close
-    (tie.spec Inv-loop μ-loop returns loop-holds (λ c. search needs) (λ c κs. search needs) mul-n add-n (λ c. search needs) (λ c. search needs) loop-again
-    cast-t12 returns-2 returns-3)
+    (tie.spec Inv-loop μ-loop returns loop-holds (λ c. search needs) (λ c κs. search needs) mul-n (λ c. search needs) add-n (λ c. search needs)
+    (λ c. search needs) loop-again cast-t13 returns-2 returns-3)
