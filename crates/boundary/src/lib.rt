@@ -106,13 +106,8 @@ pub extern "C" fn mezhtolik_measure_tool(
 ) -> Decided
     ensures { λ r. ⌜ reply r (now (area .exit)) (now (results .exit)) ≡ toolExported (now (area .entry)) (now (numbers .entry)) (now (results .entry)) place ⌝ }
 {
-    let refusal = lent_refusal(
-        TOOL_NUMBERS,
-        area.len(),
-        numbers.len(),
-        results.len(),
-        place,
-    );
+    let many = numbers.len() == TOOL_NUMBERS;
+    let refusal = lent_refusal(area.len(), many, results.len(), place);
     if refusal != DONE {
         return decided_by(not_answered(refusal));
     }
@@ -129,13 +124,8 @@ pub extern "C" fn mezhtolik_measure_zero(
 ) -> Decided
     ensures { λ r. ⌜ reply r (now (area .exit)) (now (results .exit)) ≡ zeroExported (now (area .entry)) (now (numbers .entry)) (now (results .entry)) place ⌝ }
 {
-    let refusal = lent_refusal(
-        ZERO_NUMBERS,
-        area.len(),
-        numbers.len(),
-        results.len(),
-        place,
-    );
+    let many = numbers.len() == ZERO_NUMBERS;
+    let refusal = lent_refusal(area.len(), many, results.len(), place);
     if refusal != DONE {
         return decided_by(not_answered(refusal));
     }

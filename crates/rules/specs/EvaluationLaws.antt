@@ -12,13 +12,14 @@ use Rattle.package.specs.declared.found.Evaluation.{Evaluation}
 use Rattle.rules.specs.Stores.{Package}
 use Rattle.rules.specs.Refusals.{greatestRefusal}
 use Rattle.rules.specs.RefusalLaws.{Limited, first-small}
-use Rattle.rules.specs.Calibration.{calibrationRecords}
-use Rattle.rules.specs.Tool.{verdict, branchNumber, decision, deviation, toolAt}
+use Rattle.rules.specs.Calibration.{calibrationArgumentsWith, calibrationRecords}
+use Rattle.rules.specs.Tool.{verdict, branchNumber, decision, toolArgumentsWith, deviation, toolAt}
+use Rattle.rules.specs.Zero.{zeroArgumentsWith}
 use Rattle.rules.specs.Results.{noEvaluation, evaluatedBy}
 use Rattle.rules.specs.Calls.{Call, setEmpirical, setWear, setOffset, calibrateReading, readStatus, measureToolReadings, measureZeroReadings, load, save, meaning, toolRead, rules, refusal, evaluation}
 
 limited : (p : Package) (c : Call) → Limited (rules p c)
-unfolding calibrationRecords
+unfolding calibrationArgumentsWith calibrationRecords toolArgumentsWith zeroArgumentsWith
 limited p (setEmpirical ev value) = tt
 limited p (setWear tool radius length) = tt
 limited p (setOffset offset v1 v2 v3) = tt
