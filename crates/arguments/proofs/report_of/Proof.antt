@@ -1,6 +1,6 @@
 -- The remainder is below the number of patterns, so its size is taken and cast as it is, and is the definition's; the float is the same on each axis.
 use mathlib.Core.Path.{_≡_, ap, _∙_}
-use Prim.Native.Nat.{_<_, _^_, _%_}
+use Prim.Native.Nat.{_<_, _%_}
 use native.Mathlib.Omega.{arith}
 use borrow.Author.Needs.{needs}
 use lib.Ieee.{Float, binary32, ofBits}
@@ -11,9 +11,8 @@ use mir.Val.{SFits, toZ, ofZ}
 use mir.Facts.{toZ-ofZ}
 use Rattle.signed.specs.Ranges.{size}
 use Rattle.signed.specs.Magnitudes.{abs-quot, abs-rem, abs-of, fits-abs}
-use Rattle.package.specs.declared.arguments.Reading.{Reading}
 use Rattle.package.specs.declared.arguments.Reading.the-variants.{Reported}
-use Rattle.arguments.specs.Arguments.{patterns, floatOf}
+use Rattle.arguments.specs.Arguments.{patterns}
 use Rattle.arguments.proofs.report_of.Statement.{statement}
 use Rattle.arguments.proofs.report_of.Tie as tie
 
