@@ -2,7 +2,7 @@
 use mathlib.Core.Path.{_≡_, refl, ap, sym, _∙_}
 use mathlib.Core.Bool.{Bool, true, false, cond}
 use mathlib.Core.List.{List, [], _∷_}
-use Prim.Native.Nat.{ℕ, zero, suc, _+_, _-_, _<_, _≤_}
+use Prim.Native.Nat.{ℕ, zero, suc, _+_, _<_, _≤_}
 use native.Mathlib.Omega.{arith}
 use lib.IntN.{ℤ, pos, natAbs}
 use lib.ListN.{length, getD}
@@ -16,7 +16,7 @@ use Rattle.package.specs.declared.arguments.Raws.{Raws}
 use Rattle.job_text.specs.Letters.{letterG, raw, formOf}
 use Rattle.job_text.specs.Lines.{Numbers, none, all, first, numbersOf}
 use Rattle.g_lines.specs.JoinedLaws.{Without}
-use Rattle.g_lines.specs.TLine.{letterT, rawOf, withRaws}
+use Rattle.g_lines.specs.TLine.{letterT, rawIndex, rawOf, withRaws}
 
 -- raws that a field can hold
 abbrev pub Held : Raws → Type 0
@@ -46,7 +46,7 @@ with-some q n (f ∷ fs) = ap suc (with-some q (n + 1) fs)
 
 module _ (q : Raws) (held : Held q) where
   raw-held : (n : ℕ) → natAbs (rawOf q n) < 100000000
-  raw-held n = each-getD (λ z. natAbs z < 100000000) (q .r1 ∷ q .r2 ∷ q .r3 ∷ q .r4 ∷ []) (n - 7) (pos 0) (omega arith) held
+  raw-held n = each-getD (λ z. natAbs z < 100000000) (q .r1 ∷ q .r2 ∷ q .r3 ∷ q .r4 ∷ []) (rawIndex n) (pos 0) (omega arith) held
 
   no-comma : (z : ℤ) → natAbs z < 100000000 → Without comma (signedDecimal z)
   no-comma z h = each-so {P = λ b. minus ≤ b} {Q = λ x. x ≡ comma → ⊥} (λ x p e. omega arith) (signedDecimal z) (bytes-from z h)
