@@ -96,7 +96,8 @@ impl Refusal {
             Refusal::MalformedLine => "the line is malformed or has over 200 bytes: check its letter, the number of its fields and their form",
             Refusal::EmptyJob => "the job is empty: give it at least one line",
             Refusal::WrongJob => "the job has over 65,536 bytes, over 1,000 lines or no line feed at its end: split it, or end its last line",
-            Refusal::BadFloat => "a float that is used is no number, infinite or beyond ±1000 mm: check that the box has touched and reports millimetres, and of a G line that the digits stand highest first",
+            Refusal::BadFloat => "a float that is used is no number, infinite or beyond ±1000 mm: check that the box has touched \
+                and reports millimetres, and of a G line that the digits stand highest first",
             Refusal::WrongArea => "the area has not 137 numbers: lend the whole area",
             Refusal::WrongArguments => "a measurement has not its 21 or 13 arguments, or its reports not 12 floats: hand all of them over",
         }
