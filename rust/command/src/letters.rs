@@ -179,7 +179,7 @@ mod tests {
     #[test]
     fn floats_are_said_where_the_kind_uses_them() {
         let raws = "c11f374c,411f47ae,7fc00000,3f800000";
-        let (low, high) = ("r1 -9.951 mm = -99510 u", "r2 9.955 mm = 99550 u");
+        let (low, high) = ("r1 -9.951 mm (-99510 u)", "r2 9.955 mm (99550 u)");
         let rest = "tool 4, no EV, MV 2";
         assert_eq!(said("0", raws), format!("plane, probe 1, {low}, {rest}"));
         assert_eq!(
@@ -188,7 +188,7 @@ mod tests {
         );
         assert_eq!(
             said("1", raws),
-            format!("hole, probe 1, {low}, {high}, r3 no number, r4 1 mm = 10000 u, {rest}")
+            format!("hole, probe 1, {low}, {high}, r3 no number, r4 1 mm (10000 u), {rest}")
         );
         assert_eq!(said("9", raws), format!("kind 9, probe 1, {rest}"));
     }

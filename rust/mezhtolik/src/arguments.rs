@@ -87,6 +87,13 @@ pub struct Probing {
 }
 
 impl Probing {
+    /// The whole raws, 0 for a report.
+    #[inline]
+    const fn whole_raws(&self) -> [i64; 4] {
+        let [r1, r2, r3, r4] = self.raws;
+        [r1.whole(), r2.whole(), r3.whole(), r4.whole()]
+    }
+
     /// Which raws are reports: bit n - 1 for raw n, 0 where all are whole.
     #[inline]
     pub const fn reported(&self) -> u32 {
@@ -152,8 +159,9 @@ impl ToolMeasurement {
             direction,
             setpoint,
             set_centre: [c1, c2],
-            raws: [r1, r2, r3, r4],
+            ..
         } = self.probing;
+        let [r1, r2, r3, r4] = self.probing.whole_raws();
         let Limits {
             tzl,
             tmv,
@@ -163,27 +171,8 @@ impl ToolMeasurement {
             tsa,
         } = self.limits;
         [
-            kind,
-            probe,
-            axis,
-            direction,
-            setpoint,
-            c1,
-            c2,
-            r1.whole(),
-            r2.whole(),
-            r3.whole(),
-            r4.whole(),
-            self.tool,
-            self.ev,
-            self.mv,
-            self.k,
-            tzl,
-            tmv,
-            tul,
-            tll,
-            tdif,
-            tsa,
+            kind, probe, axis, direction, setpoint, c1, c2, r1, r2, r3, r4, self.tool, self.ev,
+            self.mv, self.k, tzl, tmv, tul, tll, tdif, tsa,
         ]
     }
 }
@@ -210,8 +199,9 @@ impl ZeroMeasurement {
             direction,
             setpoint,
             set_centre: [c1, c2],
-            raws: [r1, r2, r3, r4],
+            ..
         } = self.probing;
+        let [r1, r2, r3, r4] = self.probing.whole_raws();
         [
             kind,
             probe,
@@ -220,10 +210,10 @@ impl ZeroMeasurement {
             setpoint,
             c1,
             c2,
-            r1.whole(),
-            r2.whole(),
-            r3.whole(),
-            r4.whole(),
+            r1,
+            r2,
+            r3,
+            r4,
             self.offset,
             self.tsa,
         ]
