@@ -1,37 +1,26 @@
 // The calls for C: each hands on to the call in place, on the area that the caller lends.
-use arguments::tool_of;
-use arguments::zero_of;
 use calibrating::calibrate_by;
-use calibrating::probe_status;
+use empirical_setting::set_empirical;
+use fresh_area::fresh;
 use jobs::Ran;
 use jobs::run_job;
+use lent_measuring::measure_tool;
+use lent_measuring::measure_zero;
 use measuring::Decided;
-use measuring::decided_by;
-use measuring::lent_refusal;
-use measuring::not_answered;
 use memory::load;
 use memory::save;
 use package::records::Status;
-use package::refusals::DONE;
-use settings::fresh;
-use settings::set_empirical;
-use settings::set_offset;
-use settings::set_wear;
-use tool_measuring::evaluate_tool;
-use zero_measuring::evaluate_zero;
+use status_reading::probe_status;
+use wear_setting::set_wear;
+use zero_setting::set_offset;
 ghost use mathlib.Core.Path.{_≡_};
 ghost use Rattle.rules.specs.Calibration.{calibration};
 ghost use Rattle.rules.specs.Calls.{setEmpirical, setWear, setOffset, calibrate, load};
 ghost use Rattle.area.specs.Called.{unmeasured, called, freshCalled};
-ghost use Rattle.calibrating.specs.StatusRead.{statusCalled};
+ghost use Rattle.status_reading.specs.StatusRead.{statusCalled};
 ghost use Rattle.memory.specs.Saved.{savedAs, saveCalled};
 ghost use Rattle.measuring.specs.Reply.{reply, toolExported, zeroExported};
 ghost use Rattle.jobs.specs.Jobs.{jobLeft, jobCalled};
-
-// How many arguments a measurement has.
-const TOOL_NUMBERS: usize = 21;
-
-const ZERO_NUMBERS: usize = 13;
 
 // Writes the fresh package, every record 0.
 #[no_mangle]
@@ -106,17 +95,7 @@ pub extern "C" fn mezhtolik_measure_tool(
 ) -> Decided
     ensures { λ r. ⌜ reply r (now (area .exit)) (now (results .exit)) ≡ toolExported (now (area .entry)) (now (numbers .entry)) (now (results .entry)) place ⌝ }
 {
-    let refusal = lent_refusal(
-        TOOL_NUMBERS,
-        area.len(),
-        numbers.len(),
-        results.len(),
-        place,
-    );
-    if refusal != DONE {
-        return decided_by(not_answered(refusal));
-    }
-    decided_by(evaluate_tool(area, tool_of(numbers), results, place))
+    measure_tool(area, numbers, results, place)
 }
 
 // Measures with zero offset by 13 numbers and writes the 42 numbers that begin at place.
@@ -129,17 +108,7 @@ pub extern "C" fn mezhtolik_measure_zero(
 ) -> Decided
     ensures { λ r. ⌜ reply r (now (area .exit)) (now (results .exit)) ≡ zeroExported (now (area .entry)) (now (numbers .entry)) (now (results .entry)) place ⌝ }
 {
-    let refusal = lent_refusal(
-        ZERO_NUMBERS,
-        area.len(),
-        numbers.len(),
-        results.len(),
-        place,
-    );
-    if refusal != DONE {
-        return decided_by(not_answered(refusal));
-    }
-    decided_by(evaluate_zero(area, zero_of(numbers), results, place))
+    measure_zero(area, numbers, results, place)
 }
 
 // Replaces all empirical and mean values by those of a block of 80 bytes.

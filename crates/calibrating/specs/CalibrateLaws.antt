@@ -15,7 +15,7 @@ use Rattle.rules.specs.Probes.{placeOf}
 use Rattle.rules.specs.Calibration.{calibrationArguments, calibratedWith, calibratedProbe}
 use Rattle.rules.specs.Calls.{calibrate, rules}
 use Rattle.package.specs.declared.found.Calibrated.{Calibrated}
-use Rattle.probes.specs.CalibratedLaws.{arguments, place-passed, directionLeft, withDirection, probe-done, status-done}
+use Rattle.calibration.specs.CalibratedLaws.{arguments, place-passed, directionLeft, withDirection, probe-done, status-done}
 use Rattle.layout.specs.Layout.{end, recordOf, recordPut}
 use Rattle.layout.specs.LayoutLaws.{record-number, number-again, number-back}
 use Rattle.area.specs.Table.{areaLength, sectionOf, statusFrom, probeFrom, recordFrom, held}

@@ -1,3 +1,1 @@
-pub mod StatusRead
-pub mod StatusLaws
 pub mod CalibrateLaws

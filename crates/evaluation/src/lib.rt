@@ -1,4 +1,5 @@
 // What a measurement comes to. Document 01, 'Tolerance, mean, correction' and 'Zero offset kinds'.
+use branches::branch_number;
 use package::arguments::ToolMeasurement;
 use package::found::Evaluation;
 use package::found::Found;
@@ -6,7 +7,6 @@ use package::found::Held;
 use package::found::IN_TOLERANCE;
 use package::found::Sizes;
 use package::found::ZERO_BRANCH;
-use tolerance::branch_number;
 use tolerance::verdict_of;
 ghost use mathlib.Core.Path.{_≡_};
 ghost use Prim.Native.Nat.{_≤_};

@@ -1,10 +1,10 @@
 // Why a job does not run. Document 01, 'Alarm numbers'.
+use line_counts::count_lines;
 use package::refusals::DONE;
 use package::refusals::EMPTY_JOB;
 use package::refusals::NO_ROOM;
 use package::refusals::WRONG_JOB;
 use text::LINE_FEED;
-use text::count_lines;
 ghost use mathlib.Core.Path.{_≡_};
 ghost use Rattle.job_limits.specs.JobRules.{jobRefusal};
 

@@ -1,14 +1,12 @@
 // The job program: runs a job on a fresh package and prints the answers of its lines. Document 01, 'Job files'.
-mod report;
-
 use area::AREA;
+use fresh_area::fresh;
 use job_limits::JOB_LIMIT;
 use job_limits::LINE_ROOM;
 use job_limits::LINES_LIMIT;
 use jobs::run_job;
 use libc::STDOUT_FILENO;
 use package::refusals::DONE;
-use settings::fresh;
 
 // One byte more than a job may have, so that a longer one is seen.
 const READ: usize = JOB_LIMIT + 1;
@@ -22,12 +20,12 @@ fn print_answers(job: &[u8], path: &[u8]) {
     let mut output = [0u8; ROOM];
     let ran = run_job(&mut area, job, &mut output);
     if ran.refusal != DONE {
-        report::refused(ran.refusal, job, path);
+        job_report::refused(ran.refusal, job, path);
         return;
     }
     let length = ran.length;
     if !io::write_all(STDOUT_FILENO, &output[..length]) {
-        report::unwritten(path);
+        job_report::unwritten(path);
     }
 }
 
@@ -37,7 +35,7 @@ fn run_open(fd: i32, path: &[u8]) {
     let mut next = [0u8; 1];
     // read_full stops at the end and at an error alike; one read more tells which it was
     if libc::read(fd, &mut next) < 0 {
-        report::unreadable(path);
+        job_report::unreadable(path);
         return;
     }
     print_answers(&job[..size], path);
@@ -46,7 +44,7 @@ fn run_open(fd: i32, path: &[u8]) {
 fn run_file(path: &[u8]) {
     let fd = os::open_read(path);
     if fd < 0 {
-        report::unreadable(path);
+        job_report::unreadable(path);
         return;
     }
     run_open(fd, path);
@@ -60,17 +58,17 @@ fn main() {
         return;
     }
     if 2 < arguments {
-        report::wrong_arguments();
+        job_report::wrong_arguments();
         return;
     }
     let mut path = io::buffer();
     let length = os::arg(1, &mut path);
     if os::errno() != 0 {
-        report::long_name();
+        job_report::long_name();
         return;
     }
     if length == 0 {
-        report::no_name();
+        job_report::no_name();
         return;
     }
     run_file(&path[..length]);

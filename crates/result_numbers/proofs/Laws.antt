@@ -21,8 +21,8 @@ use Rattle.rules.specs.Results.{sizeEntries, toolEntries, zeroEntries}
 use Rattle.rules.specs.Passed.{LimitsPassed, ToolArgumentsPassed, ZeroArgumentsPassed}
 use Rattle.kinds.specs.KindLaws.{probe-number}
 use Rattle.sizes.specs.SizeLaws.{SizesSmall}
-use Rattle.results.specs.ResultSizes.{Small}
-use Rattle.results.specs.OutcomeLaws.{between-size, number-size, entries-small}
+use Rattle.result_sizes.specs.ResultSizes.{Small}
+use Rattle.result_sizes.specs.OutcomeLaws.{between-size, number-size, entries-small}
 use Rattle.evaluation.specs.FoundSmall.{FoundSmall, value-size}
 
 -- the entries that both ways of measuring have

@@ -17,7 +17,7 @@ use Rattle.rules.specs.Probes.{placeOf}
 use Rattle.rules.specs.Calibration.{calibrationArguments, calibratedWith}
 use Rattle.rules.specs.Calls.{calibrate}
 use Rattle.package.specs.declared.found.Calibrated.{Calibrated}
-use Rattle.probes.specs.CalibratedLaws.{arguments, place-passed}
+use Rattle.calibration.specs.CalibratedLaws.{arguments, place-passed}
 use Rattle.layout.specs.Layout.{named}
 use Rattle.area.specs.Table.{areaLength, sectionOf, statusFrom}
 use Rattle.area.specs.CalledLaws.{call-wrong}

@@ -12,8 +12,8 @@ use Rattle.signed.specs.CodeLaws.{read}
 use Rattle.lists.specs.Each.{each-at}
 use Rattle.rules.specs.Tool.{toolKindOf}
 use Rattle.rules.specs.Results.{ovr, toolEntries, toolFilled}
-use Rattle.results.specs.ResultLaws.{small-fits, asked, stored}
-use Rattle.results.specs.OutcomeLaws.{number-size}
+use Rattle.result_sizes.specs.ResultLaws.{small-fits, asked, stored}
+use Rattle.result_sizes.specs.OutcomeLaws.{number-size}
 use Rattle.result_numbers.proofs.Laws.{both-small, LimitsSmall, limits-small, tool-small}
 use Rattle.result_numbers.proofs.tool_numbers.Statement.{statement}
 use Rattle.result_numbers.proofs.tool_numbers.Tie as tie

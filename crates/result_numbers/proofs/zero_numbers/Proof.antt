@@ -4,8 +4,8 @@ use lib.IntN.{pos}
 use borrow.Author.Needs.{needs}
 use Rattle.rules.specs.Zero.{zeroKindOf}
 use Rattle.rules.specs.Results.{zeroFilled}
-use Rattle.results.specs.ResultLaws.{asked, stored}
-use Rattle.results.specs.OutcomeLaws.{number-size}
+use Rattle.result_sizes.specs.ResultLaws.{asked, stored}
+use Rattle.result_sizes.specs.OutcomeLaws.{number-size}
 use Rattle.result_numbers.proofs.Laws.{both-small, zero-small}
 use Rattle.result_numbers.proofs.zero_numbers.Statement.{statement}
 use Rattle.result_numbers.proofs.zero_numbers.Tie as tie

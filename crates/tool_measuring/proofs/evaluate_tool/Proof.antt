@@ -25,7 +25,7 @@ use Rattle.rules.specs.Calls.{measureTool, meaning, toolRead}
 use Rattle.rules.specs.Answers.{arrayAfter}
 use Rattle.area.specs.Table.{held}
 use Rattle.area.specs.Renewed.{renewedAll}
-use Rattle.results.specs.ResultLaws.{small-fits}
+use Rattle.result_sizes.specs.ResultLaws.{small-fits}
 use Rattle.evaluation.specs.FoundSmall.{value-size}
 use Rattle.measuring.specs.Reply.{tool}
 use Rattle.measuring.specs.ReplyLaws.{Asked, by-arguments, by-tests, small, wrong-area, refused, done}

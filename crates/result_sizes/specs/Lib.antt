@@ -1,0 +1,3 @@
+pub mod ResultSizes
+pub mod ResultLaws
+pub mod OutcomeLaws

@@ -1,0 +1,2 @@
+pub mod StatusRead
+pub mod StatusLaws
