@@ -1,7 +1,7 @@
 //! What is timed: parts of all kinds that end in every branch.
 
 use reference::{
-    Calibration, Feature, Package, Reading, Tolerance, ToolMeasurement, ZeroMeasurement,
+    Calibration, Feature, Package, Reading, Report, Tolerance, ToolMeasurement, ZeroMeasurement,
 };
 
 /// Every direction of every probe has this trigger.
@@ -108,6 +108,41 @@ pub fn tool_parts() -> Vec<ToolMeasurement> {
             },
         })
         .collect()
+}
+
+/// What a float box reports for a whole position: the float next to it, and on
+/// each axis the same, as on a G line.
+fn report(reading: Reading) -> Reading {
+    let position = reading.position(0).expect("a whole position");
+    let millimetres = (position as f64 / 10_000.0) as f32;
+    Reading::Report(Report::of_bits(millimetres.to_bits()))
+}
+
+/// The same measurements with tool offset, read by a float box.
+pub fn tool_reports() -> Vec<ToolMeasurement> {
+    let mut parts = tool_parts();
+    for part in &mut parts {
+        part.feature.raws = part.feature.raws.map(report);
+    }
+    parts
+}
+
+/// The same measurements with zero offset, read by a float box.
+pub fn zero_reports() -> Vec<ZeroMeasurement> {
+    let mut parts = zero_parts();
+    for part in &mut parts {
+        part.feature.raws = part.feature.raws.map(report);
+    }
+    parts
+}
+
+/// The same calibrations again, read by a float box.
+pub fn reported_recalibrations() -> Vec<Calibration> {
+    let mut all = recalibrations();
+    for calibration in &mut all {
+        calibration.raw = report(calibration.raw);
+    }
+    all
 }
 
 /// Measurements with zero offset: all kinds, a few refused by 7.

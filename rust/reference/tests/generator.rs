@@ -171,8 +171,8 @@ fn the_same_seed_gives_the_same() {
 #[test]
 fn stored_job_has_every_letter_and_refusal() {
     let text = every_letter();
-    let stored = include_bytes!("../../../jobs/every-letter-and-refusal.txt");
-    let output = include_bytes!("../../../jobs/every-letter-and-refusal.out");
+    let stored = include_bytes!("../../../jobs/every-letter-and-refusal-floats.txt");
+    let output = include_bytes!("../../../jobs/every-letter-and-refusal-floats.out");
     assert!(text == stored, "the stored job is not the one generated");
     assert!(fresh_job(&text).as_deref() == Ok(&output[..]), "its output");
     assert_eq!(text.iter().filter(|&&byte| byte == b'\n').count(), 1000);
@@ -192,6 +192,20 @@ fn stored_job_has_every_letter_and_refusal() {
         let mut lines = text.split(|&byte| byte == b'\n').zip(&keys);
         assert!(lines.any(|(line, key)| line.first() == Some(&letter) && key.0 == 0));
     }
+}
+
+/// The job that was stored before request 2026-01: it has every letter and
+/// refusal of document 01, and its answers stay to the byte.
+#[test]
+fn the_stored_job_of_before_answers_as_before() {
+    let text = include_bytes!("../../../jobs/every-letter-and-refusal.txt");
+    let output = include_bytes!("../../../jobs/every-letter-and-refusal.out");
+    assert!(fresh_job(text).as_deref() == Ok(&output[..]));
+    let refusals: BTreeSet<u8> = line_keys(output).iter().map(|key| key.0).collect();
+    assert_eq!(
+        refusals,
+        BTreeSet::from_iter([0, 2, 3, 4, 5, 6, 7, 8, 9, 10])
+    );
 }
 
 /// Jobs alone show every fault that their lines can show.
