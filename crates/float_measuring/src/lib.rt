@@ -11,6 +11,8 @@ use measuring::refused;
 use package::arguments::Calibration;
 use package::arguments::CalibrationReading;
 use package::arguments::Raws;
+use package::arguments::Reading;
+use package::arguments::Report;
 use package::arguments::ToolMeasurement;
 use package::arguments::ToolReadings;
 use package::arguments::ZeroMeasurement;
@@ -28,7 +30,7 @@ ghost use mathlib.Core.Bool.{cond};
 ghost use lib.Dec.{eqb};
 ghost use lib.IntN.{pos};
 ghost use Rattle.rules.specs.Measuring.{lent};
-ghost use Rattle.rules.specs.Calibration.{calibrationWith};
+ghost use Rattle.rules.specs.Calibration.{calibrationWith, reported};
 ghost use Rattle.rules.specs.Tool.{toolWith};
 ghost use Rattle.rules.specs.Zero.{zeroWith};
 ghost use Rattle.rules.specs.Calls.{calibrateReading, measureToolReadings};
@@ -82,6 +84,32 @@ pub fn calibrate_reading(area: &mut [i32], t: CalibrationReading) -> u32
         return WRONG_AREA;
     }
     bad_float(calibration_refusal(without_reading(t)))
+}
+
+// Calibrates one direction of a probe by a report, by numbers: so a caller that has them makes no struct.
+pub fn calibrate_report(
+    area: &mut [i32],
+    probe: i64,
+    axis: i64,
+    direction: i64,
+    setpoint: i64,
+    report: Report,
+    tzl: i64,
+    tsa: i64,
+) -> u32
+    ensures { λ r. ⌜ unmeasured r (now (area .exit)) ≡ called (now (area .entry)) (calibrateReading (reported probe axis direction setpoint report tzl tsa)) ⌝ }
+{
+    let reading = Reading::Reported(report);
+    let t = CalibrationReading {
+        probe,
+        axis,
+        direction,
+        setpoint,
+        reading,
+        tzl,
+        tsa,
+    };
+    calibrate_reading(area, t)
 }
 
 // What a measurement with tool offset is given, with these positions.

@@ -12,9 +12,9 @@ ghost use mathlib.Core.Path.{_≡_};
 ghost use Rattle.measuring.specs.Reply.{reply, toolExported, zeroExported};
 
 // How many arguments a measurement has.
-const TOOL_NUMBERS: usize = 21;
+pub const TOOL_NUMBERS: usize = 21;
 
-const ZERO_NUMBERS: usize = 13;
+pub const ZERO_NUMBERS: usize = 13;
 
 // Measures with tool offset by 21 numbers and writes the 42 numbers that begin at place.
 pub fn measure_tool(area: &mut [i32], numbers: &[i64], results: &mut [i32], place: usize) -> Decided
