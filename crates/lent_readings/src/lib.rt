@@ -38,12 +38,7 @@ pub fn measure_tool_readings(
     let a = tool_of(numbers);
     let raws = a.raws;
     let readings = lent_readings(raws, floats, reported);
-    decided_by(evaluate_tool_readings(
-        area,
-        tool_reported(a, readings),
-        results,
-        place,
-    ))
+    decided_by(evaluate_tool_readings(area, tool_reported(a, readings), results, place))
 }
 
 // Measures with zero offset by 13 numbers and 12 floats, the raws that `reported` marks by their reports, and writes the 42 numbers that begin at place.
@@ -66,10 +61,5 @@ pub fn measure_zero_readings(
     let a = zero_of(numbers);
     let raws = a.raws;
     let readings = lent_readings(raws, floats, reported);
-    decided_by(evaluate_zero_readings(
-        area,
-        zero_reported(a, readings),
-        results,
-        place,
-    ))
+    decided_by(evaluate_zero_readings(area, zero_reported(a, readings), results, place))
 }

@@ -7,8 +7,8 @@ use Rattle.float_measuring.proofs.calibrate_report.Tie as tie
 returns : tie.Need-returns
 returns c =
     let f = c .before .before .before .fits in
-    rw (toZ-ofZ (f .probe), toZ-ofZ (f .axis), toZ-ofZ (f .direction), toZ-ofZ (f .setpoint), toZ-ofZ (f .raw), toZ-ofZ (f .tzl), toZ-ofZ (f .tsa)) at
-    (c .before .calibrate .ensures)
+    rw (toZ-ofZ (f .probe), toZ-ofZ (f .axis), toZ-ofZ (f .direction), toZ-ofZ (f .setpoint), toZ-ofZ (f .tzl), toZ-ofZ (f .tsa)) at
+    (c .before .calibrate-reading .ensures)
 
 pub calibrate-report-spec : {M : Type 1} → statement M
 calibrate-report-spec = tie.close (tie.spec (λ c κs. search needs) (λ c. search needs) returns)
