@@ -1,7 +1,7 @@
 // The calls for C: each hands on to the call in place, on the area that the caller lends.
 use calibrating::calibrate_by;
 use empirical_setting::set_empirical;
-use float_measuring::calibrate_report;
+use float_calibrating::calibrate_report;
 use fresh_area::fresh;
 use jobs::Ran;
 use jobs::run_job;

@@ -27,7 +27,7 @@ use Rattle.package.specs.declared.found.Kind.{Kind}
 use Rattle.rules.specs.Stores.{pick}
 use Rattle.rules.specs.Kinds.{kind}
 use Rattle.rules.specs.Sizes.{Touch, touches, rawAt}
-use Rattle.rules.specs.Readings.{goodFloat, signed, unitsOf, goodIf, positionIf, readingsOk, rawsOf}
+use Rattle.rules.specs.Readings.{goodFloat, signed, unitsRounding, unitsOf, goodIf, positionIf, readingsOk, rawsOf}
 
 -- ---- the units are the whole number nearest to 10,000·x, the one farther from zero of two: with x = ±m·up e / down e, multiplied out
 distance : (s : Bool) (n k q : ℕ) → natAbs (signed s n -ℤ pos k *ℤ signed s q) ≡ (n - k * q) + (k * q - n)
@@ -38,7 +38,7 @@ size-signed : (s : Bool) (n : ℕ) → natAbs (signed s n) ≡ n
 size-signed false n = refl
 size-signed true n = abs-neg (pos n)
 
-away : (n k : ℕ) → 1 ≤ k → 2 * n < 2 * (k * halvesUp n k) + k
+away : (n k : ℕ) → 1 ≤ k → 2 * n < 2 * (k * unitsRounding n k) + k
 unfolding halvesUp
 away n k h = omega (arith, div-add-mod' (2 * n + k) (2 * k), mod-lt (2 * n + k) {m = 2 * k} (omega arith))
 
@@ -50,15 +50,15 @@ module _ (s : Bool) (m : ℕ) (e : ℤ) where
   unfolding unitsOf
   units-nearest =
       let n = 10000 * (m * up e) in
-      rw (distance s n (down e) (halvesUp n (down e))) (omega (arith, halves-up n (down e) (down-pos e)))
+      rw (distance s n (down e) (unitsRounding n (down e))) (omega (arith, halves-up n (down e) (down-pos e)))
 
   pub units-away : 2 * natAbs (exact -ℤ pos (down e) *ℤ unitsOf (fin s m e)) ≡ down e → 10000 * (m * up e) ≤ down e * natAbs (unitsOf (fin s m e))
   unfolding unitsOf
   units-away h =
       let n = 10000 * (m * up e) in
-      let d : 2 * ((n - down e * halvesUp n (down e)) + (down e * halvesUp n (down e) - n)) ≡ down e =
-      rw (distance s n (down e) (halvesUp n (down e))) at h in
-      rw (size-signed s (halvesUp n (down e))) (omega (arith, d, away n (down e) (down-pos e)))
+      let d : 2 * ((n - down e * unitsRounding n (down e)) + (down e * unitsRounding n (down e) - n)) ≡ down e =
+      rw (distance s n (down e) (unitsRounding n (down e))) at h in
+      rw (size-signed s (unitsRounding n (down e))) (omega (arith, d, away n (down e) (down-pos e)))
 
 -- ---- the position of a good float is in range, so 3 refuses none
 small : (a b : ℕ) → a ≤ 1000 * b → 1 ≤ b → halvesUp (10000 * a) b ≤ 10000000

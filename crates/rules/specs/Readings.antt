@@ -29,10 +29,13 @@ signed false n = pos n
 signed true n = minus n
 
 -- "The exact value times 10,000 is rounded to the nearest unit, halves away from zero; both zeros give 0."
+abbrev pub unitsRounding : ℕ → ℕ → ℕ
+unitsRounding = halvesUp
+
 unfoldable pub unitsOf : Float → ℤ
 unitsOf nan = pos 0
 unitsOf (inf s) = pos 0
-unitsOf (fin s m e) = signed s (halvesUp (10000 * (m * up e)) (down e))
+unitsOf (fin s m e) = signed s (unitsRounding (10000 * (m * up e)) (down e))
 
 -- ---- a reading on an axis
 -- "X, Y, Z for axes 1, 2, 3"

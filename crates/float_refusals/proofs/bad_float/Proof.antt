@@ -1,7 +1,7 @@
 -- By the number's own test.
 use borrow.Author.Tests.{eq-eqb, ne-eqb}
-use Rattle.float_measuring.proofs.bad_float.Statement.{statement}
-use Rattle.float_measuring.proofs.bad_float.Tie as tie
+use Rattle.float_refusals.proofs.bad_float.Statement.{statement}
+use Rattle.float_refusals.proofs.bad_float.Tie as tie
 
 returns : tie.Need-returns
 returns c = rw (eq-eqb (c .before .args .stated) 2 (c .if1 .taken))

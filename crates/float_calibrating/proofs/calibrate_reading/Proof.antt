@@ -21,8 +21,8 @@ use Rattle.area.specs.Called.{called}
 use Rattle.area.specs.CalledLaws.{call-wrong, call-refused, same-called}
 use Rattle.floats.specs.declared.Units.{Units}
 use Rattle.floats.specs.Units.{unitsIf}
-use Rattle.float_measuring.proofs.calibrate_reading.Statement.{statement}
-use Rattle.float_measuring.proofs.calibrate_reading.Tie as tie
+use Rattle.float_calibrating.proofs.calibrate_reading.Statement.{statement}
+use Rattle.float_calibrating.proofs.calibrate_reading.Tie as tie
 
 module _ (u : tie.After-reading-units) where
   abbrev start : tie.Start

@@ -1,8 +1,8 @@
 -- The numbers are those that it is given, each in the range of its type.
 use mir.Facts.{toZ-ofZ}
 use borrow.Author.Needs.{needs}
-use Rattle.float_measuring.proofs.calibrate_report.Statement.{statement}
-use Rattle.float_measuring.proofs.calibrate_report.Tie as tie
+use Rattle.float_calibrating.proofs.calibrate_report.Statement.{statement}
+use Rattle.float_calibrating.proofs.calibrate_report.Tie as tie
 
 returns : tie.Need-returns
 returns c =
