@@ -32,34 +32,34 @@ pub record SameCall (c d : Call) : Type 0 where
   pub evaluation-same : (p : Package) → meaning c .evaluation (meaning c .read p) ≡ meaning d .evaluation (meaning d .read p)
   pub reckoned-same : (p : Package) → reckoned p c ≡ reckoned p d
 
+same : {c d : Call} → ((p : Package) → rules p c ≡ rules p d) → ((p : Package) → changes p c ≡ changes p d)
+    → ((p : Package) → meaning c .evaluation (meaning c .read p) ≡ meaning d .evaluation (meaning d .read p))
+    → ((p : Package) → reckoned p c ≡ reckoned p d) → SameCall c d
+same r c e k = record { rules-same = r; changes-same = c; evaluation-same = e; reckoned-same = k }
+
 -- so the same refusal, the same package after it, the same answer
-module _ {c d : Call} (same : SameCall c d) (p : Package) where
+module _ {c d : Call} (alike : SameCall c d) (p : Package) where
   pub same-refusal : refusal p c ≡ refusal p d
   unfolding refusal
-  same-refusal = ap first (same .rules-same p)
+  same-refusal = ap first (alike .rules-same p)
 
   pub same-step : step p c ≡ step p d
   unfolding step
   same-step =
       ap (λ n. cond (eqb n 0) (done p c) p) same-refusal
-      ∙ ap (λ (cs : List Change). cond (eqb (refusal p d) 0) (madeAll p cs) p) (same .changes-same p)
+      ∙ ap (λ (cs : List Change). cond (eqb (refusal p d) 0) (madeAll p cs) p) (alike .changes-same p)
 
   pub same-answer : evaluation p c ≡ evaluation p d
   unfolding evaluation
   same-answer =
       ap (λ n. evaluatedBy n (meaning c .evaluation (meaning c .read p))) same-refusal
-      ∙ ap (evaluatedBy (refusal p d)) (same .evaluation-same p)
+      ∙ ap (evaluatedBy (refusal p d)) (alike .evaluation-same p)
 
 -- ---- a measurement with tool offset
 module _ (t : ToolReadings) (good : goodTool t ≡ true) where
   pub tool-whole : (array : List ℤ) (place : ℕ) → SameCall (measureToolReadings t array place) (measureTool (toolAt t) array place)
   tool-whole array place =
-      record {
-        rules-same = λ p. ap (λ (b : Bool). room array place ∷ toolRulesWith b (toolRead p (toolAt t)) (toolAt t)) good;
-        changes-same = λ p. refl;
-        evaluation-same = λ p. refl;
-        reckoned-same = λ p. refl;
-      }
+      same (λ p. ap (λ (b : Bool). room array place ∷ toolRulesWith b (toolRead p (toolAt t)) (toolAt t)) good) (λ p. refl) (λ p. refl) (λ p. refl)
 
   pub tool-array-whole : (p : Package) (array : List ℤ) (place : ℕ) → toolArray p t array place ≡ toolArray p (wholeTool (toolAt t)) array place
   unfolding toolArray
@@ -69,12 +69,7 @@ module _ (t : ToolReadings) (good : goodTool t ≡ true) where
 module _ (t : ZeroReadings) (good : goodZero t ≡ true) where
   pub zero-whole : (array : List ℤ) (place : ℕ) → SameCall (measureZeroReadings t array place) (measureZero (zeroAt t) array place)
   zero-whole array place =
-      record {
-        rules-same = λ p. ap (λ (b : Bool). room array place ∷ zeroRulesWith b (zeroRead p (zeroAt t)) (zeroAt t)) good;
-        changes-same = λ p. refl;
-        evaluation-same = λ p. refl;
-        reckoned-same = λ p. refl;
-      }
+      same (λ p. ap (λ (b : Bool). room array place ∷ zeroRulesWith b (zeroRead p (zeroAt t)) (zeroAt t)) good) (λ p. refl) (λ p. refl) (λ p. refl)
 
   pub zero-array-whole : (p : Package) (array : List ℤ) (place : ℕ) → zeroArray p t array place ≡ zeroArray p (wholeZero (zeroAt t)) array place
   unfolding zeroArray
@@ -83,12 +78,7 @@ module _ (t : ZeroReadings) (good : goodZero t ≡ true) where
 -- ---- a calibration
 pub calibration-whole : (t : CalibrationReading) → goodCalibration t ≡ true → SameCall (calibrateReading t) (calibrate (calibrationAt t))
 calibration-whole t good =
-    record {
-      rules-same = λ p. ap (λ (b : Bool). calibrationRulesWith b (triggerFor (at p probes (t .probe)) (calibrationAt t)) (calibrationAt t)) good;
-      changes-same = λ p. refl;
-      evaluation-same = λ p. refl;
-      reckoned-same = λ p. refl;
-    }
+    same (λ p. ap (λ (b : Bool). calibrationRulesWith b (triggerFor (at p probes (t .probe)) (calibrationAt t)) (calibrationAt t)) good) (λ p. refl) (λ p. refl) (λ p. refl)
 
 -- ---- where a used float is not good: 2 where it is 2 with any whole positions, else 13
 later : (positions limits : Bool) → eqb (cond positions (cond limits 0 4) 3) 2 ≡ false

@@ -63,7 +63,8 @@ tzl-read c = read _ (search (c .struct-told7 .given))
 tsa-read : (c : tie.After-struct-told8) → let z = told (c .before .before .before .before .before .before) .tsa in toZ w64 (ofZ w64 z) ≡ z
 tsa-read c = read _ (search (c .struct-told8 .given))
 
-position-read : (c : tie.After-struct-told6) → let z = (c .before .before .before .before .before .before .before) .reading-units .result .position in toZ w64 (ofZ w64 z) ≡ z
+position-read : (c : tie.After-struct-told6) → let z = (c .before .before .before .before .before .before .before) .reading-units .result .position in
+    toZ w64 (ofZ w64 z) ≡ z
 position-read c = read _ (search (c .struct-told6 .given))
 
 returns : tie.Need-returns

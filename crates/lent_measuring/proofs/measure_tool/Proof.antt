@@ -15,7 +15,8 @@ use Rattle.lent_measuring.proofs.measure_tool.Statement.{statement}
 use Rattle.lent_measuring.proofs.measure_tool.Tie as tie
 
 abbrev asked : tie.Start → Asked
-asked s = record { measurement = tool (wholeTool (toolOf (s .args .numbers .now))); area = s .args .area .now; results = s .args .results .now; place = s .args .place }
+asked s =
+    record { measurement = tool (wholeTool (toolOf (s .args .numbers .now))); area = s .args .area .now; results = s .args .results .now; place = s .args .place }
 
 returns : tie.Need-returns
 returns c =
@@ -31,7 +32,14 @@ none : (c : tie.Else1) → let s = c .before .before in
 none c = sym (c .before .lent-refusal .ensures) ∙ c .if1 .left
 
 tool-of-requires : tie.Need-tool-of-requires
-tool-of-requires c κs = let e = c .before in let s = e .before .before in omega (arith, eqb-true (length (s .args .numbers .now)) 21 (as-many (asked s) (eqb (length (s .args .numbers .now)) 21) (none e)))
+tool-of-requires c κs =
+    let e = c .before in
+    let s = e .before .before in
+    omega (
+      arith,
+      eqb-true (length (s .args .numbers .now)) 21
+          (as-many (asked s) (eqb (length (s .args .numbers .now)) 21) (none e)),
+    )
 
 returns-2 : tie.Need-returns-2
 returns-2 c =

@@ -15,7 +15,8 @@ use Rattle.lent_measuring.proofs.measure_zero.Statement.{statement}
 use Rattle.lent_measuring.proofs.measure_zero.Tie as tie
 
 abbrev asked : tie.Start → Asked
-asked s = record { measurement = zero (wholeZero (zeroOf (s .args .numbers .now))); area = s .args .area .now; results = s .args .results .now; place = s .args .place }
+asked s =
+    record { measurement = zero (wholeZero (zeroOf (s .args .numbers .now))); area = s .args .area .now; results = s .args .results .now; place = s .args .place }
 
 returns : tie.Need-returns
 returns c =
@@ -31,7 +32,14 @@ none : (c : tie.Else1) → let s = c .before .before in
 none c = sym (c .before .lent-refusal .ensures) ∙ c .if1 .left
 
 zero-of-requires : tie.Need-zero-of-requires
-zero-of-requires c κs = let e = c .before in let s = e .before .before in omega (arith, eqb-true (length (s .args .numbers .now)) 13 (as-many (asked s) (eqb (length (s .args .numbers .now)) 13) (none e)))
+zero-of-requires c κs =
+    let e = c .before in
+    let s = e .before .before in
+    omega (
+      arith,
+      eqb-true (length (s .args .numbers .now)) 13
+          (as-many (asked s) (eqb (length (s .args .numbers .now)) 13) (none e)),
+    )
 
 returns-2 : tie.Need-returns-2
 returns-2 c =

@@ -31,7 +31,8 @@ module _ (s : tie.Start) where
   reported a = zeroReported a (lentReadings (a .raws) (s .args .floats .now) (s .args .reported))
 
   abbrev asked : Asked
-  asked = record { measurement = zero (reported (zeroOf (s .args .numbers .now))); area = s .args .area .now; results = s .args .results .now; place = s .args .place }
+  asked =
+      record { measurement = zero (reported (zeroOf (s .args .numbers .now))); area = s .args .area .now; results = s .args .results .now; place = s .args .place }
 
 returns : tie.Need-returns
 returns c =
