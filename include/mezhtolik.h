@@ -7,6 +7,7 @@
  * Units
  *   u  0.1 um: positions, setpoints, set centres, triggers, limits, empirical values (EV) and mean values (MV)
  *   h  0.05 um: tool wears and zero offsets
+ *   A float box reports in millimetres; 1 mm is 10000 u. A float is IEEE 754 binary32.
  *
  * Pointers and lengths
  *   Every pointer is followed by its length, counted in elements of its type and not in bytes. A call takes for granted what it cannot test: a pointer
@@ -14,7 +15,7 @@
  *   call do not overlap; nobody else writes them during the call, nor reads those that the call writes. That is all that a call asks of its caller. A
  *   length that is wrong is refused.
  *
- * Any number is allowed as an argument, in the area and in a buffer: each gets a result or a refusal.
+ * Any number is allowed as an argument, in the area and in a buffer, and any float, also one that is no number: each gets a result or a refusal.
  *
  * A refusal is the first number that applies, 0 when done (MEZHTOLIK_DONE). A call that is refused leaves the area as it was, number for number.
  * A call that is done writes the numbers of the records that it changes and leaves every other number; a job does what the calls of its lines do, and
@@ -79,8 +80,9 @@ enum {
     MEZHTOLIK_MALFORMED_LINE = 10,  /* a line of a job is malformed or has over 200 bytes; only in the answer of that line */
     MEZHTOLIK_EMPTY_JOB = 11,       /* a job of no bytes */
     MEZHTOLIK_WRONG_JOB = 12,       /* a job of over 65536 bytes or over 1000 lines, or whose last line has no line feed */
+    MEZHTOLIK_BAD_FLOAT = 13,       /* a float that is used is no number, infinite or beyond +-1000 mm; stands behind 2 and before 3 */
     MEZHTOLIK_WRONG_AREA = 100,     /* the area has not MEZHTOLIK_AREA numbers: every buffer is left */
-    MEZHTOLIK_WRONG_ARGUMENTS = 101 /* a measurement's arguments are not as many as they should be: every buffer is left */
+    MEZHTOLIK_WRONG_ARGUMENTS = 101 /* a measurement's arguments or floats are not as many as they should be: every buffer is left */
 };
 
 /* ---- records */
@@ -106,6 +108,15 @@ uint32_t mezhtolik_set_offset(int32_t *area, size_t area_length, int64_t offset,
  */
 uint32_t mezhtolik_calibrate(int32_t *area, size_t area_length, int64_t probe, int64_t axis, int64_t direction, int64_t setpoint, int64_t raw,
                              int64_t tzl, int64_t tsa);
+
+/*
+ * The same by a report of a float box, in place of a raw in u: x, y and z in mm, as the box reports them together. The axis picks its float, x, y, z for axes
+ * 1, 2, 3; the two others may be anything. Its exact value times 10000, rounded to the nearest u with halves away from zero, is the raw; both zeros give 0.
+ * Refusals: those of mezhtolik_calibrate, with 13 behind 2 and before 3: the float of the axis is no number, infinite or beyond +-1000 mm. 1000 mm itself is
+ * allowed, on both sides.
+ */
+uint32_t mezhtolik_calibrate_report(int32_t *area, size_t area_length, int64_t probe, int64_t axis, int64_t direction, int64_t setpoint, float x, float y,
+                                    float z, int64_t tzl, int64_t tsa);
 
 /* What a status read answers: bit place - 1 for each direction calibrated, and how many there are. Both are 0 where it is refused. */
 typedef struct mezhtolik_status {
@@ -212,6 +223,35 @@ mezhtolik_decision mezhtolik_measure_tool(int32_t *area, size_t area_length, con
                                           size_t results_length, size_t place);
 mezhtolik_decision mezhtolik_measure_zero(int32_t *area, size_t area_length, const int64_t *arguments, size_t arguments_length, int32_t *results,
                                           size_t results_length, size_t place);
+
+/*
+ * The same with reports of a float box for some raws or all. What the box reported for r1 to r4 is lent as MEZHTOLIK_REPORTS floats in mm: x, y, z of r1,
+ * then of r2, r3, r4. reported says which raws are reports, as a sum of MEZHTOLIK_REPORTED_..: where the bit of a raw is set, the raw is its report, and the
+ * number among the arguments is not looked at; where it is clear, the raw is that number, and its three floats are not looked at. Other bits of reported are
+ * not looked at. With none set the call is the one above.
+ *
+ * The measured axis picks the float of a report: of a plane, groove and web x, y, z for axes 1, 2, 3; of a hole and shaft x for r1 and r2 and y for r3 and
+ * r4. It becomes a raw in u as in mezhtolik_calibrate_report. A float that is not picked, and a raw that the kind does not use, may be anything.
+ *
+ * Refusals: those above; 101 also where the floats are not MEZHTOLIK_REPORTS; and 13 behind 2 and before 3, where a float that is used is no number, infinite
+ * or beyond +-1000 mm. 13 writes the results as the numbers around it do.
+ */
+mezhtolik_decision mezhtolik_measure_tool_readings(int32_t *area, size_t area_length, const int64_t *arguments, size_t arguments_length, const float *reports,
+                                                   size_t reports_length, uint32_t reported, int32_t *results, size_t results_length, size_t place);
+mezhtolik_decision mezhtolik_measure_zero_readings(int32_t *area, size_t area_length, const int64_t *arguments, size_t arguments_length, const float *reports,
+                                                   size_t reports_length, uint32_t reported, int32_t *results, size_t results_length, size_t place);
+
+/* How many floats the reports of a measurement have, and where each stands: raw 1..4, axis 1..3. */
+#define MEZHTOLIK_REPORTS 12
+#define MEZHTOLIK_REPORT(raw, axis) (3 * ((raw) - 1) + (axis) - 1)
+
+/* Which raws are reports. */
+enum {
+    MEZHTOLIK_REPORTED_R1 = 1,
+    MEZHTOLIK_REPORTED_R2 = 2,
+    MEZHTOLIK_REPORTED_R3 = 4,
+    MEZHTOLIK_REPORTED_R4 = 8
+};
 
 /* Places of the 42 numbers, counted from the place given to the measurement, by their numbers .. */
 #define MEZHTOLIK_OVR(n) (n)

@@ -14,6 +14,7 @@ static int32_t *const area = room + 1;
 static int32_t results[3 + MEZHTOLIK_RESULTS + 3], results_before[LENGTH(results)];
 static uint8_t buffer[MEZHTOLIK_BLOCK + 2], buffer_before[LENGTH(buffer)];
 static int64_t tool[MEZHTOLIK_TOOL_ARGUMENTS + 1], zero[MEZHTOLIK_ZERO_ARGUMENTS + 1];
+static float reports[MEZHTOLIK_REPORTS + 1];
 
 static void check(int holds, int line)
 {
@@ -39,6 +40,26 @@ static int all_left(void) { return area_left() && results_left() && buffer_left(
 static int decided(mezhtolik_decision d, uint32_t refusal, uint32_t branch, uint32_t verdict)
 {
     return d.refusal == refusal && d.branch == branch && d.verdict == verdict;
+}
+
+/* What is no number, without math.h. */
+static float no_number(void)
+{
+    const uint32_t bits = 0x7fc00000;
+    float x;
+
+    memcpy(&x, &bits, sizeof x);
+    return x;
+}
+
+static mezhtolik_decision tool_readings(uint32_t reported)
+{
+    return mezhtolik_measure_tool_readings(area, MEZHTOLIK_AREA, tool, 21, reports, 12, reported, results, LENGTH(results), 3);
+}
+
+static mezhtolik_decision zero_readings(uint32_t reported)
+{
+    return mezhtolik_measure_zero_readings(area, MEZHTOLIK_AREA, zero, 13, reports, 12, reported, results, LENGTH(results), 3);
 }
 
 /* A plane at 1000 u on axis 3, touched in the negative direction, 40 u above its setpoint. */
@@ -92,6 +113,9 @@ static void wrong_area(size_t length)
     CHECK(mezhtolik_calibrate(area, length, 1, 1, 0, 0, 0, 0, 0) == 100);
     CHECK(decided(mezhtolik_measure_tool(area, length, tool, 0, results, MEZHTOLIK_RESULTS, 0), 100, 0, 0));
     CHECK(decided(mezhtolik_measure_zero(area, length, zero, 0, results, MEZHTOLIK_RESULTS, 0), 100, 0, 0));
+    CHECK(mezhtolik_calibrate_report(area, length, 1, 1, 0, 0, 0, 0, 0, 0, 0) == 100);
+    CHECK(decided(mezhtolik_measure_tool_readings(area, length, tool, 0, reports, 0, 0, results, MEZHTOLIK_RESULTS, 0), 100, 0, 0));
+    CHECK(decided(mezhtolik_measure_zero_readings(area, length, zero, 0, reports, 0, 0, results, MEZHTOLIK_RESULTS, 0), 100, 0, 0));
     CHECK(mezhtolik_load(area, length, buffer, MEZHTOLIK_BLOCK) == 100);
     CHECK(mezhtolik_save(area, length, buffer, MEZHTOLIK_BLOCK) == 100);
 }
@@ -151,6 +175,89 @@ static void measurements(void)
     CHECK(area_left() && results[3 + MEZHTOLIK_OVR(16)] == 0 && results[3 + MEZHTOLIK_OVI(9)] == 2 && results[2] == GUARD);
 }
 
+/* Whether every number of the area is as before, save count numbers from place on. */
+static int only(size_t place, size_t count)
+{
+    return memcmp(room, room_before, (1 + place) * sizeof room[0]) == 0 &&
+           memcmp(area + place + count, room_before + 1 + place + count, (LENGTH(room) - 1 - place - count) * sizeof room[0]) == 0;
+}
+
+/* X, Y and Z reach their axes, and each limit its place. */
+static void reported_probes(void)
+{
+    const float none = no_number();
+
+    CHECK(mezhtolik_calibrate_report(area, MEZHTOLIK_AREA, 1, 1, 0, 100, -0.02f, none, none, 250, 350) == 0 && area[MEZHTOLIK_TRIGGER(1, 2)] == 300);
+    CHECK(mezhtolik_calibrate_report(area, MEZHTOLIK_AREA, 1, 2, 0, 100, none, -0.02f, none, 250, 350) == 0 && area[MEZHTOLIK_TRIGGER(1, 4)] == 300);
+    CHECK(mezhtolik_calibrate_report(area, MEZHTOLIK_AREA, 1, 3, 1, 100, none, none, 0.04f, 250, 350) == 0 && area[MEZHTOLIK_TRIGGER(1, 5)] == 300);
+    CHECK(area[MEZHTOLIK_STATUS(1)] == 2 + 8 + 16);
+    remember();
+    CHECK(mezhtolik_calibrate_report(area, MEZHTOLIK_AREA, 1, 4, 0, 10000001, none, none, none, 0, 0) == 2);
+    CHECK(mezhtolik_calibrate_report(area, MEZHTOLIK_AREA, 1, 1, 0, 10000001, none, 0, 0, 0, 0) == 13);
+    CHECK(mezhtolik_calibrate_report(area, MEZHTOLIK_AREA, 1, 1, 0, 10000001, 0, none, none, 0, 0) == 3);
+    CHECK(mezhtolik_calibrate_report(area, MEZHTOLIK_AREA, 1, 3, 1, 100, 0, 0, 0.08f, 250, 350) == 7);
+    CHECK(mezhtolik_calibrate_report(area, MEZHTOLIK_AREA, 1, 3, 1, 100, 0, 0, 1000.0f, 0, 1000000) == 7);
+    CHECK(mezhtolik_calibrate_report(area, MEZHTOLIK_AREA, 1, 3, 1, 100, 0, 0, 1000.0001f, 0, 1000000) == 13 && all_left());
+}
+
+/* The planes of measurements() read by a box: Z of the first report. What is not used is not looked at. */
+static void readings(void)
+{
+    size_t i;
+
+    for (i = 0; i < LENGTH(reports); i++) {
+        reports[i] = no_number();
+    }
+    tool[MEZHTOLIK_ARG_KIND] = 0;
+    remember();
+    CHECK(decided(mezhtolik_measure_tool_readings(area, MEZHTOLIK_AREA, tool, 20, reports, 12, 1, results, LENGTH(results), 0), 101, 0, 0));
+    CHECK(decided(mezhtolik_measure_tool_readings(area, MEZHTOLIK_AREA, tool, 21, reports, 11, 1, results, LENGTH(results), 0), 101, 0, 0));
+    CHECK(decided(mezhtolik_measure_tool_readings(area, MEZHTOLIK_AREA, tool, 21, reports, 13, 0, results, LENGTH(results), 0), 101, 0, 0));
+    CHECK(decided(mezhtolik_measure_zero_readings(area, MEZHTOLIK_AREA, zero, 14, reports, 12, 1, results, LENGTH(results), 0), 101, 0, 0));
+    CHECK(decided(mezhtolik_measure_zero_readings(area, MEZHTOLIK_AREA, zero, 13, reports, 0, 0, results, LENGTH(results), 0), 101, 0, 0));
+    CHECK(decided(mezhtolik_measure_tool_readings(area, MEZHTOLIK_AREA, tool, 21, reports, 12, 1, results, LENGTH(results), 7), 1, 0, 0));
+    CHECK(decided(mezhtolik_measure_zero_readings(area, MEZHTOLIK_AREA, zero, 13, reports, 12, 1, results, LENGTH(results), SIZE_MAX), 1, 0, 0));
+    CHECK(all_left());
+    CHECK(decided(tool_readings(MEZHTOLIK_REPORTED_R1), 13, 0, 0) && area_left() && results[3 + MEZHTOLIK_OVI(9)] == 13 && results[2] == GUARD);
+    CHECK(decided(zero_readings(MEZHTOLIK_REPORTED_R1), 13, 0, 0) && area_left() && results[3 + MEZHTOLIK_OVI(9)] == 13);
+    tool[MEZHTOLIK_ARG_PROBE] = 4;
+    CHECK(decided(tool_readings(MEZHTOLIK_REPORTED_R1), 2, 0, 0));
+    tool[MEZHTOLIK_ARG_PROBE] = 2;
+
+    /* 0.134 mm are the 1340 u of before; the number among the arguments is not looked at */
+    reports[MEZHTOLIK_REPORT(1, 3)] = 0.134f;
+    tool[MEZHTOLIK_ARG_R1] = zero[MEZHTOLIK_ARG_R1] = INT64_MAX;
+    CHECK(decided(tool_readings(0xffffffff), 0, 2, 1) && results[3 + MEZHTOLIK_OVR(16)] == 47 && only(MEZHTOLIK_RADIUS_WEAR(32), 2));
+    remember();
+    CHECK(decided(zero_readings(MEZHTOLIK_REPORTED_R1), 0, 6, 0) && results[3 + MEZHTOLIK_OVR(16)] == 40 && only(MEZHTOLIK_OFFSET(4, 1), 3));
+
+    /* a clear bit: the number, whatever its floats */
+    reports[MEZHTOLIK_REPORT(1, 3)] = no_number();
+    tool[MEZHTOLIK_ARG_R1] = zero[MEZHTOLIK_ARG_R1] = 1340;
+    CHECK(decided(tool_readings(0xfffffffe), 0, 2, 1) && results[3 + MEZHTOLIK_OVR(16)] == 47);
+    CHECK(decided(zero_readings(0), 0, 6, 0) && results[3 + MEZHTOLIK_OVR(16)] == 40);
+    tool[MEZHTOLIK_ARG_KIND] = 104;
+}
+
+/* A hole has X of its first two reports and Y of the others, each raw by itself whole or a report. */
+static void reported_hole(void)
+{
+    static const int64_t hole[] = {1, 1, 0, 0, 200000, 1000000, 800000, 0, 1070000, 729900, 0, 7, 0, 0, 3, 35, 70, 105, -105, 210, 10000};
+    int32_t own[MEZHTOLIK_AREA];
+    int64_t axis;
+
+    mezhtolik_fresh(own, MEZHTOLIK_AREA);
+    for (axis = 1; axis <= 2; axis++) {
+        CHECK(mezhtolik_calibrate(own, MEZHTOLIK_AREA, 1, axis, MEZHTOLIK_POSITIVE, 0, -30000, 0, 40000) == 0);
+        CHECK(mezhtolik_calibrate(own, MEZHTOLIK_AREA, 1, axis, MEZHTOLIK_NEGATIVE, 0, 30000, 0, 40000) == 0);
+    }
+    reports[MEZHTOLIK_REPORT(1, 1)] = 93.0f;
+    reports[MEZHTOLIK_REPORT(4, 2)] = 87.0f;
+    CHECK(decided(mezhtolik_measure_tool_readings(own, MEZHTOLIK_AREA, hole, 21, reports, 12, MEZHTOLIK_REPORTED_R1 | MEZHTOLIK_REPORTED_R4, results,
+                                                  LENGTH(results), 3), 0, 5, 0));
+    CHECK(results[3 + MEZHTOLIK_OVR_DEVIATION] == 100 && results[3 + MEZHTOLIK_OVR_CENTRE_1] == 2000000 && results[3 + MEZHTOLIK_OVR_CENTRE_2] == 1599900);
+}
+
 static void blocks(void)
 {
     remember();
@@ -160,13 +267,6 @@ static void blocks(void)
     buffer[78] = 0x00;
     buffer[79] = 0x80;
     CHECK(mezhtolik_load(area, MEZHTOLIK_AREA, buffer, 80) == 0 && area[MEZHTOLIK_MV(20)] == -32768 && area[MEZHTOLIK_EV(20)] == -7);
-}
-
-/* Whether every number of the area is as before, save count numbers from place on. */
-static int only(size_t place, size_t count)
-{
-    return memcmp(room, room_before, (1 + place) * sizeof room[0]) == 0 &&
-           memcmp(area + place + count, room_before + 1 + place + count, (LENGTH(room) - 1 - place - count) * sizeof room[0]) == 0;
 }
 
 /* Numbers that their records cannot hold: a call that is done leaves those that it does not change. */
@@ -302,6 +402,9 @@ int main(void)
     settings();
     probes();
     measurements();
+    reported_probes();
+    readings();
+    reported_hole();
     blocks();
     jobs();
     any_content();

@@ -12,12 +12,28 @@ enum { LINE = 256 };
 
 static int32_t area[MEZHTOLIK_AREA], results[MEZHTOLIK_RESULTS];
 
-/* A line's letter and the numbers behind it. */
+/* A line's letter and the numbers behind it; of a G line also its floats, the same on each axis, and whether one has other digits. */
 typedef struct line {
     char letter;
     size_t count;
     int64_t numbers[MEZHTOLIK_TOOL_ARGUMENTS];
+    float reports[MEZHTOLIK_REPORTS];
+    int malformed;
 } line;
+
+/* The float of a raw, 1..4, from its eight digits. */
+static void read_float(line *l, int raw, const char *digits)
+{
+    uint32_t bits = (uint32_t)strtoul(digits, NULL, 16);
+    int axis;
+
+    if (strspn(digits, "0123456789abcdef") != 8 || digits[8] != '\0') {
+        l->malformed = 1;
+    }
+    for (axis = 1; axis <= 3; axis++) {
+        memcpy(&l->reports[MEZHTOLIK_REPORT(raw, axis)], &bits, sizeof bits);
+    }
+}
 
 static line read_line(char *text)
 {
@@ -27,7 +43,11 @@ static line read_line(char *text)
     memset(&l, 0, sizeof l);
     l.letter = field[0];
     for (field = strtok(NULL, ",\n"); field != NULL; field = strtok(NULL, ",\n")) {
-        l.numbers[l.count] = strtoll(field, NULL, 10);
+        if (l.letter == 'G' && l.count >= MEZHTOLIK_ARG_R1 && l.count <= MEZHTOLIK_ARG_R4) {
+            read_float(&l, (int)l.count - MEZHTOLIK_ARG_R1 + 1, field);
+        } else {
+            l.numbers[l.count] = strtoll(field, NULL, 10);
+        }
         l.count++;
     }
     return l;
@@ -39,6 +59,17 @@ static mezhtolik_decision done(uint32_t refusal)
 
     d.refusal = refusal;
     return d;
+}
+
+/* A G line: all four raws are reports. */
+static mezhtolik_decision measure_floats(const line *l)
+{
+    const uint32_t all = MEZHTOLIK_REPORTED_R1 | MEZHTOLIK_REPORTED_R2 | MEZHTOLIK_REPORTED_R3 | MEZHTOLIK_REPORTED_R4;
+
+    if (l->malformed) {
+        return done(MEZHTOLIK_MALFORMED_LINE);
+    }
+    return mezhtolik_measure_tool_readings(area, MEZHTOLIK_AREA, l->numbers, l->count, l->reports, MEZHTOLIK_REPORTS, all, results, MEZHTOLIK_RESULTS, 0);
 }
 
 static mezhtolik_decision call(const line *l)
@@ -53,6 +84,7 @@ static mezhtolik_decision call(const line *l)
     case 'C': return done(mezhtolik_calibrate(area, MEZHTOLIK_AREA, n[0], n[1], n[2], n[3], n[4], n[5], n[6]));
     case 'T': return mezhtolik_measure_tool(area, MEZHTOLIK_AREA, n, l->count, results, MEZHTOLIK_RESULTS, 0);
     case 'Z': return mezhtolik_measure_zero(area, MEZHTOLIK_AREA, n, l->count, results, MEZHTOLIK_RESULTS, 0);
+    case 'G': return measure_floats(l);
     default: exit(2);
     }
 }
@@ -91,7 +123,8 @@ static void print_record(const line *l)
     case 'W': print_wear(n[0]); break;
     case 'O': print_offset(n[0]); break;
     case 'C': print_trigger(n[0], n[1], n[2]); break;
-    case 'T': print_mean_and_wear(n[MEZHTOLIK_ARG_MV], n[MEZHTOLIK_ARG_TOOL]); break;
+    case 'T':
+    case 'G': print_mean_and_wear(n[MEZHTOLIK_ARG_MV], n[MEZHTOLIK_ARG_TOOL]); break;
     default: print_offset(n[MEZHTOLIK_ARG_OFFSET]); break;
     }
 }
@@ -104,7 +137,7 @@ static void print_surfaces(const line *l)
     int width = results[MEZHTOLIK_OVR_MEASURED] + results[MEZHTOLIK_OVR_EMPIRICAL];
     int centre = results[first ? MEZHTOLIK_OVR_CENTRE_1 : MEZHTOLIK_OVR_CENTRE_2];
 
-    if (kind != MEZHTOLIK_KIND_PLANE && results[MEZHTOLIK_OVI_REFUSAL] == 0 && (l->letter == 'T' || l->letter == 'Z')) {
+    if (kind != MEZHTOLIK_KIND_PLANE && results[MEZHTOLIK_OVI_CYCLE] != 0) {
         printf("%d to %d", (centre - width) / 2, (centre + width) / 2);
     }
 }

@@ -76,6 +76,11 @@ def measured(part, mean, wears):
     return Mean() if part.branch in (4, 5) else mean
 
 
+def read_fields(letter, fields):
+    """The numbers of a line; the raws of a G line are left out, as the answer has what came of them."""
+    return [0 if letter == "G" and 7 <= place < 11 else int(field) for place, field in enumerate(fields)]
+
+
 def read_part(line, fields, answer):
     part = Part()
     part.line, part.feature = line, (fields[0], fields[2], fields[3])
@@ -92,9 +97,9 @@ def reckon(job, answers):
         if letter == "W" and answer[1] == 0:
             tool, radius, length = map(int, fields)
             wears[tool] = [Wear(radius), Wear(length)]
-        if letter != "T" or answer[1] == 10:
+        if letter not in ("T", "G") or answer[1] == 10:
             continue
-        part = read_part(number, list(map(int, fields)), answer)
+        part = read_part(number, read_fields(letter, fields), answer)
         parts, refused = series.setdefault(part.mv, ([], []))
         if answer[1] != 0:
             refused.append((number, answer[1]))

@@ -80,6 +80,12 @@ static const int64_t plane[MEZHTOLIK_TOOL_ARGUMENTS] = {MEZHTOLIK_KIND_PLANE, 1,
 
 static const int64_t zero_plane[MEZHTOLIK_ZERO_ARGUMENTS] = {MEZHTOLIK_KIND_ZERO_PLANE, 1, 3, MEZHTOLIK_NEGATIVE, 800000, 0, 0, 829870, 0, 0, 0, 4, 20000};
 
+static mezhtolik_decision measure_readings(const float *reports, uint32_t reported)
+{
+    return mezhtolik_measure_tool_readings(area, MEZHTOLIK_AREA, plane, MEZHTOLIK_TOOL_ARGUMENTS, reports, MEZHTOLIK_REPORTS, reported, results,
+                                           MEZHTOLIK_RESULTS, 0);
+}
+
 static void names_of_planes(void)
 {
     static const entry tool[] = {{MEZHTOLIK_OVR_SETPOINT, 800000}, {MEZHTOLIK_OVR_MEASURED, 799870}, {MEZHTOLIK_OVR_UPPER_LIMIT, 800120},
@@ -102,6 +108,32 @@ static void names_of_planes(void)
     d = measure_zero(zero_plane);
     CHECK(d.branch == MEZHTOLIK_BRANCH_ZERO_OFFSET && d.verdict == MEZHTOLIK_IN_TOLERANCE && area[MEZHTOLIK_OFFSET(4, 3)] == -260);
     check_results(zero, sizeof zero / sizeof zero[0]);
+}
+
+/* The same planes by a box that reports 82.987 mm for Z, and what is no number for X and Y; then with a whole raw, and with Z beyond 1000 mm. */
+static void names_of_reports(void)
+{
+    const uint32_t no_number = 0xffc00000;
+    float reports[MEZHTOLIK_REPORTS];
+    mezhtolik_decision d;
+    int raw, axis;
+
+    CHECK(MEZHTOLIK_REPORT(1, 1) == 0 && MEZHTOLIK_REPORT(4, 3) == MEZHTOLIK_REPORTS - 1);
+    for (raw = 1; raw <= 4; raw++) {
+        for (axis = 1; axis <= 3; axis++) {
+            memcpy(&reports[MEZHTOLIK_REPORT(raw, axis)], &no_number, sizeof no_number);
+        }
+    }
+    mezhtolik_fresh(area, MEZHTOLIK_AREA);
+    CHECK(mezhtolik_calibrate_report(area, MEZHTOLIK_AREA, 1, 3, MEZHTOLIK_NEGATIVE, 0, reports[0], reports[1], 3.0f, 0, 40000) == MEZHTOLIK_DONE);
+    CHECK(area[MEZHTOLIK_TRIGGER(1, 5)] == 30000);
+    reports[MEZHTOLIK_REPORT(1, 3)] = 82.987f;
+    d = measure_readings(reports, MEZHTOLIK_REPORTED_R1);
+    CHECK(d.branch == MEZHTOLIK_BRANCH_BEYOND_TMV && results[MEZHTOLIK_OVR_DEVIATION] == -130 && area[MEZHTOLIK_LENGTH_WEAR(2)] == 260);
+    d = measure_readings(reports, MEZHTOLIK_REPORTED_R2 | MEZHTOLIK_REPORTED_R3 | MEZHTOLIK_REPORTED_R4);
+    CHECK(d.refusal == MEZHTOLIK_DONE && results[MEZHTOLIK_OVR_DEVIATION] == -130);
+    reports[MEZHTOLIK_REPORT(1, 3)] = -1000.5f;
+    CHECK(measure_readings(reports, MEZHTOLIK_REPORTED_R1).refusal == MEZHTOLIK_BAD_FLOAT && results[MEZHTOLIK_OVI_REFUSAL] == 13);
 }
 
 static int status_is(int32_t number, uint32_t bits, uint32_t count)
@@ -187,6 +219,7 @@ int main(void)
 {
     names_of_a_hole();
     names_of_planes();
+    names_of_reports();
     statuses_beyond_their_range();
     triggers_beyond_their_range();
     wears_beyond_their_range();

@@ -24,6 +24,7 @@ static uintptr_t entry;
 
 static int32_t area[MEZHTOLIK_AREA], calibrated[MEZHTOLIK_AREA], results[MEZHTOLIK_RESULTS];
 static int64_t arguments[MEZHTOLIK_TOOL_ARGUMENTS];
+static float reports[MEZHTOLIK_REPORTS];
 static uint8_t bytes[MEZHTOLIK_BLOCK];
 
 static void fresh(void)
@@ -56,6 +57,13 @@ static void calibrate(void)
     mezhtolik_calibrate(area, MEZHTOLIK_AREA, arguments[0], arguments[1], arguments[2], arguments[3], arguments[4], arguments[5], arguments[6]);
 }
 
+static void calibrate_report(void)
+{
+    ENTER();
+    mezhtolik_calibrate_report(area, MEZHTOLIK_AREA, arguments[0], arguments[1], arguments[2], arguments[3], reports[0], reports[1], reports[2], arguments[5],
+                               arguments[6]);
+}
+
 static void probe_status(void)
 {
     ENTER();
@@ -74,6 +82,18 @@ static void measure_zero(void)
     mezhtolik_measure_zero(area, MEZHTOLIK_AREA, arguments, MEZHTOLIK_ZERO_ARGUMENTS, results, MEZHTOLIK_RESULTS, 0);
 }
 
+static void measure_tool_readings(void)
+{
+    ENTER();
+    mezhtolik_measure_tool_readings(area, MEZHTOLIK_AREA, arguments, MEZHTOLIK_TOOL_ARGUMENTS, reports, MEZHTOLIK_REPORTS, 15, results, MEZHTOLIK_RESULTS, 0);
+}
+
+static void measure_zero_readings(void)
+{
+    ENTER();
+    mezhtolik_measure_zero_readings(area, MEZHTOLIK_AREA, arguments, MEZHTOLIK_ZERO_ARGUMENTS, reports, MEZHTOLIK_REPORTS, 15, results, MEZHTOLIK_RESULTS, 0);
+}
+
 static void load(void)
 {
     ENTER();
@@ -90,9 +110,11 @@ static const uint8_t job[] = "C,1,1,0,0,-500,0,1000\nE,1,5\nW,1,2,3\nO,1,2,3,4\n
                              "T,3,1,1,0,200000,0,0,-99510,99550,0,0,4,0,2,5,20,100,150,-150,300,1000\n"
                              "T,1,1,1,0,200000,0,0,-99510,99640,-99510,99640,4,0,2,5,20,100,150,-150,300,1000\n"
                              "T,0,1,3,0,200000,0,0,199510,0,0,0,4,1,2,5,20,100,150,-150,300,1000\n"
+                             "G,1,1,1,0,200000,0,0,c11f374c,411f6c8b,c11f374c,411f6c8b,4,0,2,5,20,100,150,-150,300,1000\n"
+                             "G,0,1,3,0,200000,0,0,7fc00000,00000000,00000000,00000000,4,1,2,5,20,100,150,-150,300,1000\n"
                              "Z,100,1,3,1,200000,0,0,200510,0,0,0,1,1000\n"
                              "Z,102,1,1,0,200000,0,0,-100500,100500,-100500,100500,1,1000\n";
-static uint8_t output[40 * 11];
+static uint8_t output[40 * 13];
 
 static void run_job(void)
 {
@@ -135,6 +157,16 @@ static size_t most(size_t known, void (*call)(void))
     return known;
 }
 
+/* What a float box reports for raws in u: the same on each axis. */
+static void report(const int64_t *raws, size_t count)
+{
+    size_t i;
+
+    for (i = 0; i < 3 * count; i++) {
+        reports[i] = (float)raws[i / 3] / 10000.0f;
+    }
+}
+
 /* A setting, calibration or status read: numbers that are and are not, values in and out of range. */
 static size_t by_numbers(void (*call)(void))
 {
@@ -147,6 +179,7 @@ static size_t by_numbers(void (*call)(void))
             arguments[0] = values[i];
             arguments[1] = arguments[4] = values[j];
             arguments[6] = 1000;
+            report(arguments + 4, 1);
             known = most(known, call);
         }
     }
@@ -173,6 +206,7 @@ static size_t by_parts(void (*call)(void), int64_t kind, int zero)
                 if (zero) {
                     arguments[MEZHTOLIK_ARG_ZERO_TSA] = 1000;
                 }
+                report(arguments + MEZHTOLIK_ARG_R1, 4);
                 known = most(known, call);
             }
         }
@@ -194,7 +228,7 @@ static size_t measuring(void (*call)(void), int zero)
 
 static void show(const char *name, size_t found)
 {
-    printf("  %-14s %6zu bytes\n", name, found);
+    printf("  %-21s %6zu bytes\n", name, found);
 }
 
 static void prepare(void)
@@ -221,9 +255,12 @@ int main(void)
     show("set_wear", by_numbers(set_wear));
     show("set_offset", by_numbers(set_offset));
     show("calibrate", by_numbers(calibrate));
+    show("calibrate_report", by_numbers(calibrate_report));
     show("probe_status", by_numbers(probe_status));
     show("measure_tool", measuring(measure_tool, 0));
+    show("measure_tool_readings", measuring(measure_tool_readings, 0));
     show("measure_zero", measuring(measure_zero, 1));
+    show("measure_zero_readings", measuring(measure_zero_readings, 1));
     show("load", most(0, load));
     show("save", most(0, save));
     show("run_job", most(0, run_job));

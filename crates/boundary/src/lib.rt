@@ -1,25 +1,30 @@
 // The calls for C: each hands on to the call in place, on the area that the caller lends.
 use calibrating::calibrate_by;
 use empirical_setting::set_empirical;
+use float_calibrating::calibrate_report;
 use fresh_area::fresh;
 use jobs::Ran;
 use jobs::run_job;
 use lent_measuring::measure_tool;
 use lent_measuring::measure_zero;
+use lent_readings::measure_tool_readings;
+use lent_readings::measure_zero_readings;
 use measuring::Decided;
 use memory::load;
 use memory::save;
+use package::arguments::Report;
 use package::records::Status;
 use status_reading::probe_status;
 use wear_setting::set_wear;
 use zero_setting::set_offset;
 ghost use mathlib.Core.Path.{_≡_};
-ghost use Rattle.rules.specs.Calibration.{calibration};
-ghost use Rattle.rules.specs.Calls.{setEmpirical, setWear, setOffset, calibrate, load};
+ghost use Rattle.rules.specs.Calibration.{calibration, reported};
+ghost use Rattle.rules.specs.Calls.{setEmpirical, setWear, setOffset, calibrate, calibrateReading, load};
 ghost use Rattle.area.specs.Called.{unmeasured, called, freshCalled};
 ghost use Rattle.status_reading.specs.StatusRead.{statusCalled};
 ghost use Rattle.memory.specs.Saved.{savedAs, saveCalled};
 ghost use Rattle.measuring.specs.Reply.{reply, toolExported, zeroExported};
+ghost use Rattle.lent_readings.specs.LentMeasured.{toolReadingsExported, zeroReadingsExported};
 ghost use Rattle.jobs.specs.Jobs.{jobLeft, jobCalled};
 
 // Writes the fresh package, every record 0.
@@ -77,6 +82,27 @@ pub extern "C" fn mezhtolik_calibrate(
     calibrate_by(area, probe, axis, direction, setpoint, raw, tzl, tsa)
 }
 
+// Calibrates one direction of a probe by a report.
+#[no_mangle]
+pub extern "C" fn mezhtolik_calibrate_report(
+    area: &mut [i32],
+    probe: i64,
+    axis: i64,
+    direction: i64,
+    setpoint: i64,
+    x: f32,
+    y: f32,
+    z: f32,
+    tzl: i64,
+    tsa: i64,
+) -> u32
+    ensures { λ r. ⌜ unmeasured r (now (area .exit))
+        ≡ called (now (area .entry)) (calibrateReading (reported probe axis direction setpoint (record { x = x; y = y; z = z }) tzl tsa)) ⌝ }
+{
+    let report = Report { x, y, z };
+    calibrate_report(area, probe, axis, direction, setpoint, report, tzl, tsa)
+}
+
 // The bits of a probe's status and the number of directions calibrated.
 #[no_mangle]
 pub extern "C" fn mezhtolik_probe_status(area: &[i32], probe: i64) -> Status
@@ -109,6 +135,38 @@ pub extern "C" fn mezhtolik_measure_zero(
     ensures { λ r. ⌜ reply r (now (area .exit)) (now (results .exit)) ≡ zeroExported (now (area .entry)) (now (numbers .entry)) (now (results .entry)) place ⌝ }
 {
     measure_zero(area, numbers, results, place)
+}
+
+// Measures with tool offset by 21 numbers and 12 floats, the raws that `reported` marks by their reports, and writes the 42 numbers that begin at place.
+#[no_mangle]
+pub extern "C" fn mezhtolik_measure_tool_readings(
+    area: &mut [i32],
+    numbers: &[i64],
+    floats: &[f32],
+    reported: u32,
+    results: &mut [i32],
+    place: usize,
+) -> Decided
+    ensures { λ r. ⌜ reply r (now (area .exit)) (now (results .exit))
+        ≡ toolReadingsExported (now (area .entry)) (now (numbers .entry)) (now (floats .entry)) reported (now (results .entry)) place ⌝ }
+{
+    measure_tool_readings(area, numbers, floats, reported, results, place)
+}
+
+// Measures with zero offset by 13 numbers and 12 floats, the raws that `reported` marks by their reports, and writes the 42 numbers that begin at place.
+#[no_mangle]
+pub extern "C" fn mezhtolik_measure_zero_readings(
+    area: &mut [i32],
+    numbers: &[i64],
+    floats: &[f32],
+    reported: u32,
+    results: &mut [i32],
+    place: usize,
+) -> Decided
+    ensures { λ r. ⌜ reply r (now (area .exit)) (now (results .exit))
+        ≡ zeroReadingsExported (now (area .entry)) (now (numbers .entry)) (now (floats .entry)) reported (now (results .entry)) place ⌝ }
+{
+    measure_zero_readings(area, numbers, floats, reported, results, place)
 }
 
 // Replaces all empirical and mean values by those of a block of 80 bytes.

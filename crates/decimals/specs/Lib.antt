@@ -1,3 +1,4 @@
 pub mod Decimals
 pub mod DecimalLaws
 pub mod BufferLaws
+pub mod ReadBackLaws

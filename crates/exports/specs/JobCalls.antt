@@ -52,12 +52,12 @@ unless true s h = h
 unless false s h = tt
 
 behind-given : (byte : ℕ) (r : Numbers) → Given (saidBehind byte r)
-behind-given byte none = by-letter Given letters byte (counted none) tt (tt, (tt, (tt, (tt, (tt, (tt, tt))))))
+behind-given byte none = by-letter Given letters byte (counted none) tt (tt, (tt, (tt, (tt, (tt, (tt, (tt, tt)))))))
 behind-given byte (all zs) =
     by-letter Given letters byte (counted (all zs)) tt
     (each-so {P = λ l. Given (says (l .call zs))} {Q = λ l. Given (counted (all zs) l)}
     (λ l h. unless (eqb (length zs) (l .fields)) (says (l .call zs)) h) letters
-    ((tt, tt), ((tt, tt), ((tt, tt), ((tt, tt), ((tt, tt), ((tt, tt), tt)))))))
+    ((tt, tt), ((tt, tt), ((tt, tt), ((tt, tt), ((tt, tt), ((tt, tt), ((tt, tt), tt))))))))
 
 line-given : (s : List ℕ) → Given (saidBy s)
 unfolding saidBy

@@ -4,13 +4,14 @@ use native.Mathlib.Omega.{arith}
 use lib.IntN.{natAbs}
 use lib.ListN.{length, length-append}
 use Rattle.decimals.specs.DecimalLaws.{decimal-length, signed-length}
+use Rattle.rules.specs.Refusals.{greatestRefusal}
 use Rattle.rules.specs.EvaluationLaws.{EvaluationSmall}
 use Rattle.job_answers.specs.LineAnswers.{rowText}
 use Rattle.job_answers.specs.declared.Row.{Row}
 
 pub record Small (r : Row) : Type 0 where
   pub number : r .number ≤ 1000
-  pub refusal : r .refusal ≤ 10
+  pub refusal : r .refusal ≤ greatestRefusal
   pub evaluation : EvaluationSmall (r .evaluation)
 
 pub at-most-40 : (r : Row) → Small r → natAbs (r .evaluation .deviation) ≤ 9999999999 → natAbs (r .evaluation .correction) ≤ 9999999999

@@ -6,6 +6,7 @@ use lib.IntN.{ℤ}
 use Rattle.rules.specs.Calls.{Call}
 use Rattle.area.specs.Called.{Called, called}
 use borrow.Author.Tests.{ne-eqb}
+use Rattle.job_text.specs.Letters.{letterG}
 use Rattle.job_text.specs.Lines.{Said, malformed, says}
 use Rattle.job_text.specs.Fields.{saidIn}
 use Rattle.job_answers.specs.LineAnswers.{row}
@@ -20,6 +21,7 @@ call-ran area n c {a = a} e q k =
     ∙ ap (lineRan area n) k
 
 -- a byte that is no letter
-pub no-letter : (x : ℕ) (vs : List ℤ) → (x ≡ 69 → ⊥) → (x ≡ 87 → ⊥) → (x ≡ 79 → ⊥) → (x ≡ 67 → ⊥) → (x ≡ 84 → ⊥) → (x ≡ 90 → ⊥) → saidIn x vs ≡ malformed
+pub no-letter : (x : ℕ) (vs : List ℤ) → (x ≡ 69 → ⊥) → (x ≡ 87 → ⊥) → (x ≡ 79 → ⊥) → (x ≡ 67 → ⊥) → (x ≡ 84 → ⊥) → (x ≡ 90 → ⊥) → (x ≡ letterG → ⊥)
+    → saidIn x vs ≡ malformed
 unfolding saidIn
-no-letter x vs e w o c t z = rw (ne-eqb x 69 e, ne-eqb x 87 w, ne-eqb x 79 o, ne-eqb x 67 c, ne-eqb x 84 t, ne-eqb x 90 z)
+no-letter x vs e w o c t z g = rw (ne-eqb x 69 e, ne-eqb x 87 w, ne-eqb x 79 o, ne-eqb x 67 c, ne-eqb x 84 t, ne-eqb x 90 z, ne-eqb x letterG g)

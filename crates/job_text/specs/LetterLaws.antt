@@ -18,7 +18,7 @@ own : (k : ℕ) (vs : List ℤ) (n : ℕ) → ltb n k ≡ true → getD (take k 
 own k vs n t = getD-take k vs n (pos 0) (ltb-true n k t)
 
 pub own-fields : (vs : List ℤ) → Each (λ (l : Letter). l .call vs ≡ l .call (take (l .fields) vs)) letters
-own-fields vs = (simp (own 2 vs), (simp (own 3 vs), (simp (own 4 vs), (simp (own 7 vs), (simp (own 21 vs), (simp (own 13 vs), tt))))))
+own-fields vs = (simp (own 2 vs), (simp (own 3 vs), (simp (own 4 vs), (simp (own 7 vs), (simp (own 21 vs), (simp (own 13 vs), (simp (own 21 vs), tt)))))))
 
 -- ---- the row of a byte, or none
 
@@ -32,7 +32,7 @@ small (l ∷ ls) byte e = go (eqb byte (l .byte)) (small ls byte (e .1))
 
 pub count-small : (byte : ℕ) → fieldCount byte ≤ mostFields
 unfolding fieldCount
-count-small byte = small letters byte (omega arith, (omega arith, (omega arith, (omega arith, (omega arith, (omega arith, tt))))))
+count-small byte = small letters byte (omega arith, (omega arith, (omega arith, (omega arith, (omega arith, (omega arith, (omega arith, tt)))))))
 
 pub unread : (ls : List Letter) (byte : ℕ) → byLetter ls byte (counted none) malformed ≡ malformed
 unread [] byte = refl

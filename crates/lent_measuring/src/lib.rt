@@ -12,21 +12,16 @@ ghost use mathlib.Core.Path.{_≡_};
 ghost use Rattle.measuring.specs.Reply.{reply, toolExported, zeroExported};
 
 // How many arguments a measurement has.
-const TOOL_NUMBERS: usize = 21;
+pub const TOOL_NUMBERS: usize = 21;
 
-const ZERO_NUMBERS: usize = 13;
+pub const ZERO_NUMBERS: usize = 13;
 
 // Measures with tool offset by 21 numbers and writes the 42 numbers that begin at place.
 pub fn measure_tool(area: &mut [i32], numbers: &[i64], results: &mut [i32], place: usize) -> Decided
     ensures { λ r. ⌜ reply r (now (area .exit)) (now (results .exit)) ≡ toolExported (now (area .entry)) (now (numbers .entry)) (now (results .entry)) place ⌝ }
 {
-    let refusal = lent_refusal(
-        TOOL_NUMBERS,
-        area.len(),
-        numbers.len(),
-        results.len(),
-        place,
-    );
+    let many = numbers.len() == TOOL_NUMBERS;
+    let refusal = lent_refusal(area.len(), many, results.len(), place);
     if refusal != DONE {
         return decided_by(not_answered(refusal));
     }
@@ -37,13 +32,8 @@ pub fn measure_tool(area: &mut [i32], numbers: &[i64], results: &mut [i32], plac
 pub fn measure_zero(area: &mut [i32], numbers: &[i64], results: &mut [i32], place: usize) -> Decided
     ensures { λ r. ⌜ reply r (now (area .exit)) (now (results .exit)) ≡ zeroExported (now (area .entry)) (now (numbers .entry)) (now (results .entry)) place ⌝ }
 {
-    let refusal = lent_refusal(
-        ZERO_NUMBERS,
-        area.len(),
-        numbers.len(),
-        results.len(),
-        place,
-    );
+    let many = numbers.len() == ZERO_NUMBERS;
+    let refusal = lent_refusal(area.len(), many, results.len(), place);
     if refusal != DONE {
         return decided_by(not_answered(refusal));
     }

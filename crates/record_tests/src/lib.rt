@@ -1,4 +1,5 @@
-// The tests by kind on what is read and measured, which both ways of measuring share: calibrated directions, widths. Document 01, 'Measured sizes' and 'Alarm numbers'.
+// The tests by kind on what is read and measured, which both ways of measuring share: calibrated directions, widths.
+// Document 01, 'Measured sizes' and 'Alarm numbers'.
 use kinds::Across;
 use kinds::both_pairs;
 use kinds::single_pair;

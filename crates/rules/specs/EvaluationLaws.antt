@@ -12,21 +12,21 @@ use Rattle.package.specs.declared.found.Evaluation.{Evaluation}
 use Rattle.rules.specs.Stores.{Package}
 use Rattle.rules.specs.Refusals.{greatestRefusal}
 use Rattle.rules.specs.RefusalLaws.{Limited, first-small}
-use Rattle.rules.specs.Calibration.{calibrationArguments, calibrationRecords}
-use Rattle.rules.specs.Tool.{verdict, branchNumber, decision, toolArguments, deviation}
-use Rattle.rules.specs.Zero.{zeroArguments}
+use Rattle.rules.specs.Calibration.{calibrationArgumentsWith, calibrationRecords}
+use Rattle.rules.specs.Tool.{verdict, branchNumber, decision, toolArgumentsWith, deviation, toolAt}
+use Rattle.rules.specs.Zero.{zeroArgumentsWith}
 use Rattle.rules.specs.Results.{noEvaluation, evaluatedBy}
-use Rattle.rules.specs.Calls.{Call, setEmpirical, setWear, setOffset, calibrate, readStatus, measureTool, measureZero, load, save, meaning, toolRead, rules, refusal, evaluation}
+use Rattle.rules.specs.Calls.{Call, setEmpirical, setWear, setOffset, calibrateReading, readStatus, measureToolReadings, measureZeroReadings, load, save, meaning, toolRead, rules, refusal, evaluation}
 
 limited : (p : Package) (c : Call) → Limited (rules p c)
-unfolding calibrationArguments calibrationRecords toolArguments zeroArguments
+unfolding calibrationArgumentsWith calibrationRecords toolArgumentsWith zeroArgumentsWith
 limited p (setEmpirical ev value) = tt
 limited p (setWear tool radius length) = tt
 limited p (setOffset offset v1 v2 v3) = tt
-limited p (calibrate a) = tt
+limited p (calibrateReading t) = tt
 limited p (readStatus probe) = tt
-limited p (measureTool a array place) = tt
-limited p (measureZero a array place) = tt
+limited p (measureToolReadings t array place) = tt
+limited p (measureZeroReadings t array place) = tt
 limited p (load bytes) = tt
 limited p (save buffer) = tt
 
@@ -69,10 +69,11 @@ evaluation-small p c = by-refusal (refusal p c) (meaning c .evaluation (meaning 
     of p (setEmpirical ev value) = record { branch = omega arith; verdict = omega arith }
     of p (setWear tool radius length) = record { branch = omega arith; verdict = omega arith }
     of p (setOffset offset v1 v2 v3) = record { branch = omega arith; verdict = omega arith }
-    of p (calibrate a) = record { branch = omega arith; verdict = omega arith }
+    of p (calibrateReading t) = record { branch = omega arith; verdict = omega arith }
     of p (readStatus probe) = record { branch = omega arith; verdict = omega arith }
-    of p (measureTool a array place) =
+    of p (measureToolReadings t array place) =
+        let a = toolAt t in
         record { branch = branch-small (decision (toolRead p a) a .branch); verdict = verdict-small (a .limits) (deviation (toolRead p a) a) }
-    of p (measureZero a array place) = record { branch = omega arith; verdict = omega arith }
+    of p (measureZeroReadings t array place) = record { branch = omega arith; verdict = omega arith }
     of p (load bytes) = record { branch = omega arith; verdict = omega arith }
     of p (save buffer) = record { branch = omega arith; verdict = omega arith }

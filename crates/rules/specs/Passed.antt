@@ -18,15 +18,15 @@ use Rattle.package.specs.declared.found.ToolRecords.{ToolRecords}
 use Rattle.package.specs.declared.arguments.ZeroMeasurement.{ZeroMeasurement}
 use Rattle.package.specs.declared.found.ZeroRecords.{ZeroRecords}
 use Rattle.rules.specs.Stores.{probeNumber, axisNumber, directionNumber, valueNumber, toolNumber, offsetNumber, valueRange, wearRange, offsetRange, triggerRange}
-use Rattle.rules.specs.Refusals.{Rule, first, rising}
+use Rattle.rules.specs.Refusals.{Rule, _unless_, first, rising}
 use Rattle.rules.specs.RefusalLaws.{Numbered, test, test-passed, both-zero, all-of, rising-is}
 use Rattle.rules.specs.Settings.{empiricalRules, wearRules, offsetRules}
-use Rattle.rules.specs.Calibration.{newTrigger, change, calibrationNumbers, calibrationPositions, calibrationLimits, calibrationArguments, calibrationRecords, calibrationRules}
+use Rattle.rules.specs.Calibration.{newTrigger, change, calibrationNumbers, calibrationPositions, calibrationLimits, calibrationArguments, calibrationArgumentsWith, calibrationRecords, calibrationRules, calibrationRulesWith}
 use Rattle.rules.specs.Kinds.{toolKindNumber, zeroKindNumber}
 use Rattle.rules.specs.Sizes.{numbersOk, positionsOk}
 use Rattle.rules.specs.Measuring.{room, recordRules}
-use Rattle.rules.specs.Tool.{limitChain, toleranceChain, limitsOk, toolKindOf, namedOrNone, toolNumbers, toolArguments, toolTests, toolRules}
-use Rattle.rules.specs.Zero.{zeroKindOf, zeroNumbers, zeroArguments, zeroTests, zeroRules}
+use Rattle.rules.specs.Tool.{limitChain, toleranceChain, limitsOk, toolKindOf, namedOrNone, toolNumbers, toolPositions, toolArguments, toolArgumentsWith, toolTests, toolRules, toolRulesWith}
+use Rattle.rules.specs.Zero.{zeroKindOf, zeroNumbers, zeroArguments, zeroArgumentsWith, zeroTests, zeroRules, zeroRulesWith}
 use Rattle.rules.specs.Block.{loadRules}
 
 -- ---- settings
@@ -77,7 +77,7 @@ calibration-arguments a numbers rest =
     record { probe = n .0; axis = n .1 .0; direction = n .1 .1 .0; positions = t .0; limits = t .1 }
 
 pub calibration-arguments-passed : (a : Calibration) → first (calibrationArguments a) ≡ 0 → CalibrationArgumentsPassed a
-unfolding calibrationArguments
+unfolding calibrationArgumentsWith
 calibration-arguments-passed a e =
     let by : (n : ℕ) → test n (calibrationArguments a) ≡ true = λ n. test-passed n (calibrationArguments a) tt e in
     calibration-arguments a (by 2) (by 3)
@@ -88,10 +88,22 @@ pub record CalibrationPassed (stored : ℤ) (a : Calibration) : Type 0 where
   pub trigger : triggerRange (newTrigger a) ≡ true
 
 pub calibration-passed : (stored : ℤ) (a : Calibration) → first (calibrationRules stored a) ≡ 0 → CalibrationPassed stored a
-unfolding calibrationArguments calibrationRecords
+unfolding calibrationArgumentsWith calibrationRecords
 calibration-passed stored a e =
     let by : (n : ℕ) → test n (calibrationRules stored a) ≡ true = λ n. test-passed n (calibrationRules stored a) tt e in
     record { arguments = calibration-arguments a (by 2) (by 3); tsa = by 7; trigger = by 9 }
+
+-- where a float was given, it is good: the rules are those with whole positions
+floats-good : (numbers good : Bool) (rs : List Rule) → first (2 unless numbers ∷ 13 unless good ∷ rs) ≡ 0 → first (2 unless numbers ∷ rs) ≡ 0
+floats-good numbers true rs e = e
+floats-good true false rs e = absurd (omega (arith, e))
+floats-good false false rs e = absurd (omega (arith, e))
+
+pub calibration-call-passed : (good : Bool) (stored : ℤ) (a : Calibration) → first (calibrationRulesWith good stored a) ≡ 0 → CalibrationPassed stored a
+unfolding calibrationArgumentsWith
+calibration-call-passed good stored a e =
+    calibration-passed stored a
+    (floats-good (calibrationNumbers a) good (3 unless (calibrationPositions a && calibrationLimits a) ∷ calibrationRecords stored a) e)
 
 -- ---- a measurement: the rules of its records
 pub record TestsPassed (t : Tests) : Type 0 where
@@ -176,7 +188,7 @@ pub record ToolArgumentsPassed (a : ToolMeasurement) : Type 0 where
   pub limits : LimitsPassed (a .limits)
 
 pub tool-arguments-passed : (a : ToolMeasurement) → first (toolArguments a) ≡ 0 → ToolArgumentsPassed a
-unfolding toolArguments
+unfolding toolArgumentsWith
 tool-arguments-passed a e =
     let by : (n : ℕ) → test n (toolArguments a) ≡ true = λ n. test-passed n (toolArguments a) tt e in
     let w = and-eq-true-iff (positionsOk (toolKindOf a) (a .probing) (a .raws)) (within (pos 1) (pos 1000) (a .k)) .0 (by 3) in
@@ -186,11 +198,16 @@ abbrev pub ToolPassed : ToolRecords → ToolMeasurement → Type 0
 ToolPassed r a = MeasurementPassed (ToolArgumentsPassed a) (toolTests r a)
 
 pub tool-passed : (r : ToolRecords) (a : ToolMeasurement) → first (toolRules r a) ≡ 0 → ToolPassed r a
-unfolding toolArguments
+unfolding toolArgumentsWith
 tool-passed r a = measurement-passed (toolArguments a) (toolTests r a) tt (tool-arguments-passed a)
 
-pub tool-call-passed : (r : ToolRecords) (a : ToolMeasurement) (array : List ℤ) (place : ℕ) → first (room array place ∷ toolRules r a) ≡ 0 → ToolPassed r a
-tool-call-passed r a array place e = tool-passed r a (room-passed array place (toolRules r a) e)
+pub tool-call-passed : (good : Bool) (r : ToolRecords) (a : ToolMeasurement) (array : List ℤ) (place : ℕ)
+    → first (room array place ∷ toolRulesWith good r a) ≡ 0 → ToolPassed r a
+unfolding toolArgumentsWith
+tool-call-passed good r a array place e =
+    tool-passed r a
+    (floats-good (toolNumbers a) good (3 unless toolPositions a ∷ 4 unless limitsOk (a .limits) ∷ recordRules (toolTests r a))
+    (room-passed array place (toolRulesWith good r a) e))
 
 -- ---- with zero offset
 pub record ZeroNumbers (a : ZeroMeasurement) : Type 0 where
@@ -209,7 +226,7 @@ pub record ZeroArgumentsPassed (a : ZeroMeasurement) : Type 0 where
   pub tsa : within (pos 0) (pos 1000000) (a .tsa) ≡ true
 
 pub zero-arguments-passed : (a : ZeroMeasurement) → first (zeroArguments a) ≡ 0 → ZeroArgumentsPassed a
-unfolding zeroArguments
+unfolding zeroArgumentsWith
 zero-arguments-passed a e =
     let by : (n : ℕ) → test n (zeroArguments a) ≡ true = λ n. test-passed n (zeroArguments a) tt e in
     record { numbers = zero-numbers a (by 2); positions = by 3; tsa = by 4 }
@@ -218,11 +235,17 @@ abbrev pub ZeroPassed : ZeroRecords → ZeroMeasurement → Type 0
 ZeroPassed r a = MeasurementPassed (ZeroArgumentsPassed a) (zeroTests r a)
 
 pub zero-passed : (r : ZeroRecords) (a : ZeroMeasurement) → first (zeroRules r a) ≡ 0 → ZeroPassed r a
-unfolding zeroArguments
+unfolding zeroArgumentsWith
 zero-passed r a = measurement-passed (zeroArguments a) (zeroTests r a) tt (zero-arguments-passed a)
 
-pub zero-call-passed : (r : ZeroRecords) (a : ZeroMeasurement) (array : List ℤ) (place : ℕ) → first (room array place ∷ zeroRules r a) ≡ 0 → ZeroPassed r a
-zero-call-passed r a array place e = zero-passed r a (room-passed array place (zeroRules r a) e)
+pub zero-call-passed : (good : Bool) (r : ZeroRecords) (a : ZeroMeasurement) (array : List ℤ) (place : ℕ)
+    → first (room array place ∷ zeroRulesWith good r a) ≡ 0 → ZeroPassed r a
+unfolding zeroArgumentsWith
+zero-call-passed good r a array place e =
+    zero-passed r a
+    (floats-good (zeroNumbers a) good
+    (3 unless positionsOk (zeroKindOf a) (a .probing) (a .raws) ∷ 4 unless within (pos 0) (pos 1000000) (a .tsa) ∷ recordRules (zeroTests r a))
+    (room-passed array place (zeroRulesWith good r a) e))
 
 -- ---- a load
 pub load-passed : (bytes : List ℕ) → first (loadRules bytes) ≡ 0 → length bytes ≡ 80

@@ -26,6 +26,7 @@ ghost use lib.ListN.{length};
 ghost use Rattle.rules.specs.Stores.{valueRange, means, tools};
 ghost use Rattle.rules.specs.Changes.{write};
 ghost use Rattle.rules.specs.Measuring.{lent};
+ghost use Rattle.rules.specs.Tool.{wholeTool};
 ghost use Rattle.rules.specs.Calls.{measureTool};
 ghost use Rattle.rules.specs.Passed.{ToolNumbers};
 ghost use Rattle.area.specs.Table.{areaLength};
@@ -54,7 +55,7 @@ pub fn evaluate_tool(
     place: usize,
 ) -> Answer
     ensures { λ r. ⌜ measuredAs (answered (r .refusal) (r .evaluation) (now (area .exit))) (now (results .exit))
-        ≡ measuredOn (now (area .entry)) (tool a) (now (results .entry)) place ⌝ }
+        ≡ measuredOn (now (area .entry)) (tool (wholeTool a)) (now (results .entry)) place ⌝ }
 {
     if area.len() != AREA {
         return not_answered(WRONG_AREA);

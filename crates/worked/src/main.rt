@@ -1,5 +1,6 @@
 // What the calls answer, row by row. Rows stand in the files of data/, each under the 64 KiB that one read takes, so a file a topic: setting and
-// calibrating, measuring, series of parts, limits, and what these leave. A row gives a line, and the line that is expected is written from the papers.
+// calibrating, measuring, series of parts, limits, what these leave, and float reports. A row gives a line, and the line that is expected is written from
+// the papers.
 //
 // A row is a call as a job writes it, or a word and its numbers, each within i64:
 //   E,ev,value: refusal EV v
@@ -16,12 +17,15 @@
 // A call that names no record shows none. What cannot be read shows ?. Before a row, `.` shows its refusal alone, `-` nothing, `+` only the refusal,
 // within a line of text. A line of text begins with `"`, and `"` alone ends it. `#` begins a remark.
 //
-// title|row|text shows the title for the row, and the text behind all. Two titles ask for another showing of T and Z:
+// title|row|text shows the title for the row, and the text behind all. Two titles ask for another showing of T and Z, and two for float reports:
 //   room,length,place,kind: refusal branch verdict array v v ..       an array of this length, lent at this place; its numbers were 1001, 1002, ..
 //   part,number,k: refusal branch verdict D d MV m c c radius w
+//   reports,marks,<12 numbers>: T and Z with readings: which raws are reports, and the bits of X, Y and Z of each raw in decimals
+//   report,<3 numbers>: C with the bits of X, Y and Z in place of its raw
 mod measure;
 mod print;
 mod read;
+mod reports;
 mod run;
 
 use area::AREA;
@@ -41,6 +45,7 @@ fn main() {
     file(b"series.txt");
     file(b"limits.txt");
     file(b"further.txt");
+    file(b"reports.txt");
 }
 
 fn file(path: &[u8]) {

@@ -7,12 +7,16 @@ use crate::print::record;
 use crate::print::text;
 use crate::read;
 use crate::read::Fields;
+use crate::reports::Reports;
+use crate::reports::reports_of;
 use crate::run::answered;
 use area::MEANS;
 use area::OFFSETS;
 use area::TOOLS;
 use boundary::mezhtolik_measure_tool;
+use boundary::mezhtolik_measure_tool_readings;
 use boundary::mezhtolik_measure_zero;
+use boundary::mezhtolik_measure_zero_readings;
 use check::same;
 use layout::write_numbers;
 use measuring::Decided;
@@ -48,7 +52,7 @@ struct Room {
 pub fn measured(area: &mut [i32], mark: u8, title: &[u8], tool: bool, f: Fields) {
     let mut results = counted();
     let room = room_of(title);
-    let d = lent(area, tool, f, &mut results, room);
+    let d = lent(area, title, tool, f, &mut results, room);
     if answered(mark, d.refusal) {
         print::answer(d.branch);
         print::answer(d.verdict);
@@ -71,21 +75,47 @@ fn room_of(title: &[u8]) -> Room {
     room
 }
 
-fn lent(area: &mut [i32], tool: bool, f: Fields, results: &mut [i32], room: Room) -> Decided {
-    let length = room.length;
-    if length <= results.len() {
-        return measure(area, tool, f, &mut results[0..length], room.place);
-    }
-    measure(area, tool, f, results, room.place)
-}
-
-fn measure(area: &mut [i32], tool: bool, f: Fields, results: &mut [i32], at: usize) -> Decided {
+fn lent(
+    area: &mut [i32],
+    title: &[u8],
+    tool: bool,
+    f: Fields,
+    results: &mut [i32],
+    room: Room,
+) -> Decided {
     let numbers = f.numbers;
     let given = read::first_numbers(&numbers, f.count);
+    let word = read::up_to(title, b',');
+    if same(word, b"reports") {
+        let r = reports_of(read::read_fields(read::behind(title, word.len())));
+        return reported(area, tool, given, r, results);
+    }
+    let length = room.length;
+    if length <= results.len() {
+        return measure(area, tool, given, &mut results[0..length], room.place);
+    }
+    measure(area, tool, given, results, room.place)
+}
+
+fn measure(area: &mut [i32], tool: bool, given: &[i64], results: &mut [i32], at: usize) -> Decided {
     if tool {
         return mezhtolik_measure_tool(area, given, results, at);
     }
     mezhtolik_measure_zero(area, given, results, at)
+}
+
+fn reported(
+    area: &mut [i32],
+    tool: bool,
+    given: &[i64],
+    r: Reports,
+    results: &mut [i32],
+) -> Decided {
+    let floats = r.floats;
+    if tool {
+        return mezhtolik_measure_tool_readings(area, given, &floats, r.marks, results, 0);
+    }
+    mezhtolik_measure_zero_readings(area, given, &floats, r.marks, results, 0)
 }
 
 // What a measurement left: room shows the array; part what it did in a series, D and c being OVR[16] and OVR[20].

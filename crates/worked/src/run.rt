@@ -8,7 +8,11 @@ use crate::print::record;
 use crate::print::section;
 use crate::print::text;
 use crate::read::Fields;
+use crate::read::behind;
 use crate::read::first_bytes;
+use crate::read::read_fields;
+use crate::read::up_to;
+use crate::reports::float;
 use area::EMPIRICALS;
 use area::MEANS;
 use area::OFFSETS;
@@ -54,7 +58,7 @@ pub fn run(area: &mut [i32], mark: u8, title: &[u8], word: &[u8], f: Fields) {
         return load(area, mark, f);
     }
     if is(word, b"C", f.count, 7) {
-        return calibration(area, mark, f);
+        return calibration(area, mark, title, f);
     }
     set(area, mark, word, f);
 }
@@ -152,9 +156,9 @@ fn offset(area: &mut [i32], mark: u8, f: Fields) {
     }
 }
 
-fn calibration(area: &mut [i32], mark: u8, f: Fields) {
+fn calibration(area: &mut [i32], mark: u8, title: &[u8], f: Fields) {
     let n = f.numbers;
-    let refusal = boundary::mezhtolik_calibrate(area, n[0], n[1], n[2], n[3], n[4], n[5], n[6]);
+    let refusal = calibrate(area, title, f);
     if answered(mark, refusal) {
         let t = trigger(record(&area[..], PROBES, f.sizes[0]), f.sizes[1], n[2]);
         named(b"trigger", t);
@@ -162,6 +166,32 @@ fn calibration(area: &mut [i32], mark: u8, f: Fields) {
             bits(boundary::mezhtolik_probe_status(&area[..], n[0]));
         }
     }
+}
+
+// A title report,x,y,z has the bits of the floats that take the place of the raw.
+fn calibrate(area: &mut [i32], title: &[u8], f: Fields) -> u32 {
+    let n = f.numbers;
+    let word = up_to(title, b',');
+    if same(word, b"report") {
+        let r = read_fields(behind(title, word.len()));
+        let b = r.sizes;
+        let x = float(b[0]);
+        let y = float(b[1]);
+        let z = float(b[2]);
+        return boundary::mezhtolik_calibrate_report(
+            area,
+            n[0],
+            n[1],
+            n[2],
+            n[3],
+            x,
+            y,
+            z,
+            n[5],
+            n[6],
+        );
+    }
+    boundary::mezhtolik_calibrate(area, n[0], n[1], n[2], n[3], n[4], n[5], n[6])
 }
 
 // The trigger of an axis and a direction: of the two of an axis the negative stands before the positive one.

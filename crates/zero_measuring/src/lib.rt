@@ -24,6 +24,7 @@ ghost use lib.ListN.{length};
 ghost use Rattle.rules.specs.Stores.{offsets};
 ghost use Rattle.rules.specs.Changes.{write};
 ghost use Rattle.rules.specs.Measuring.{lent};
+ghost use Rattle.rules.specs.Zero.{wholeZero};
 ghost use Rattle.rules.specs.Calls.{measureZero};
 ghost use Rattle.rules.specs.Passed.{ZeroNumbers};
 ghost use Rattle.area.specs.Table.{areaLength};
@@ -49,7 +50,7 @@ pub fn evaluate_zero(
     place: usize,
 ) -> Answer
     ensures { λ r. ⌜ measuredAs (answered (r .refusal) (r .evaluation) (now (area .exit))) (now (results .exit))
-        ≡ measuredOn (now (area .entry)) (zero a) (now (results .entry)) place ⌝ }
+        ≡ measuredOn (now (area .entry)) (zero (wholeZero a)) (now (results .entry)) place ⌝ }
 {
     if area.len() != AREA {
         return not_answered(WRONG_AREA);

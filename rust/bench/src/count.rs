@@ -19,10 +19,16 @@ pub fn run(side: Side, times: u64, path: Option<&str>) -> Result<(), String> {
     Ok(())
 }
 
-/// The job of a file, or else that of the table.
+/// Names of jobs that stand in no file: the same measurements as T and as G lines.
+const WHOLE_LINES: &str = "T lines";
+const FLOAT_LINES: &str = "G lines";
+
+/// The job of a file or name, or else that of the table.
 fn job_text(path: Option<&str>) -> Result<Vec<u8>, String> {
     match path {
         None => Ok(job::text()),
+        Some(WHOLE_LINES) => Ok(job::whole_lines()),
+        Some(FLOAT_LINES) => Ok(job::float_lines()),
         Some(path) => fs::read(path).map_err(|error| format!("{path}: {error}")),
     }
 }
@@ -77,6 +83,21 @@ pub fn print(path: Option<&str>) -> Result<(), String> {
         );
     }
     println!("reference over package: {:.2}", reference / package);
+    Ok(())
+}
+
+/// What the package takes for the same measurements as T and as G lines.
+pub fn print_floats() -> Result<(), String> {
+    let lines = job::lines(&job::whole_lines()) as f64;
+    let whole = once(Side::Package, Some(WHOLE_LINES))?;
+    let floats = once(Side::Package, Some(FLOAT_LINES))?;
+    println!("the same measurements as T lines and as G lines, instructions of the package a line");
+    println!(
+        "T {:.1}, G {:.1}, G over T: {:.3}",
+        whole / lines,
+        floats / lines,
+        floats / whole
+    );
     Ok(())
 }
 

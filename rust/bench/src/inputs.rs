@@ -1,6 +1,8 @@
 //! What is timed: parts of all kinds that end in every branch.
 
-use reference::{Calibration, Feature, Package, Tolerance, ToolMeasurement, ZeroMeasurement};
+use reference::{
+    Calibration, Feature, Package, Reading, Report, Tolerance, ToolMeasurement, ZeroMeasurement,
+};
 
 /// Every direction of every probe has this trigger.
 const TRIGGER: i64 = 500;
@@ -16,7 +18,7 @@ pub fn calibrations() -> Vec<Calibration> {
         axis,
         direction,
         setpoint: 200_000,
-        raw: 200_000 - sign * TRIGGER,
+        raw: Reading::Whole(200_000 - sign * TRIGGER),
         tzl: 0,
         tsa: 40_000,
     };
@@ -25,11 +27,14 @@ pub fn calibrations() -> Vec<Calibration> {
 
 /// Calibrations again, whose trigger changes by less or more than TZL.
 pub fn recalibrations() -> Vec<Calibration> {
-    let again = |(index, calibration): (usize, Calibration)| Calibration {
-        raw: calibration.raw + index as i64 % 7 - 3,
-        tzl: 2,
-        tsa: 1_000,
-        ..calibration
+    let again = |(index, calibration): (usize, Calibration)| {
+        let raw = calibration.raw.position(0).expect("a whole position");
+        Calibration {
+            raw: Reading::Whole(raw + index as i64 % 7 - 3),
+            tzl: 2,
+            tsa: 1_000,
+            ..calibration
+        }
     };
     calibrations().into_iter().enumerate().map(again).collect()
 }
@@ -77,7 +82,7 @@ fn part(kind: i64, turn: i64, deviation: i64) -> Feature {
         direction,
         setpoint,
         centre: [c1, c2],
-        raws,
+        raws: raws.map(Reading::Whole),
     }
 }
 
@@ -103,6 +108,41 @@ pub fn tool_parts() -> Vec<ToolMeasurement> {
             },
         })
         .collect()
+}
+
+/// What a float box reports for a whole position: the float next to it, and on
+/// each axis the same, as on a G line.
+fn report(reading: Reading) -> Reading {
+    let position = reading.position(0).expect("a whole position");
+    let millimetres = (position as f64 / 10_000.0) as f32;
+    Reading::Report(Report::of_bits(millimetres.to_bits()))
+}
+
+/// The same measurements with tool offset, read by a float box.
+pub fn tool_reports() -> Vec<ToolMeasurement> {
+    let mut parts = tool_parts();
+    for part in &mut parts {
+        part.feature.raws = part.feature.raws.map(report);
+    }
+    parts
+}
+
+/// The same measurements with zero offset, read by a float box.
+pub fn zero_reports() -> Vec<ZeroMeasurement> {
+    let mut parts = zero_parts();
+    for part in &mut parts {
+        part.feature.raws = part.feature.raws.map(report);
+    }
+    parts
+}
+
+/// The same calibrations again, read by a float box.
+pub fn reported_recalibrations() -> Vec<Calibration> {
+    let mut all = recalibrations();
+    for calibration in &mut all {
+        calibration.raw = report(calibration.raw);
+    }
+    all
 }
 
 /// Measurements with zero offset: all kinds, a few refused by 7.

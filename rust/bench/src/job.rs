@@ -3,16 +3,20 @@
 use crate::inputs;
 use reference::job::fresh_job;
 use reference::line::{fields_of, write_line};
-use reference::Call;
+use reference::{Call, ToolMeasurement};
 
 pub const LINES: usize = 1_000;
 
-fn tool_call(turn: usize) -> Call {
+fn measured(measurement: ToolMeasurement) -> Call {
     Call::MeasureTool {
-        measurement: inputs::tool_parts()[turn % inputs::PARTS],
+        measurement,
         array: Vec::new(),
         place: 0,
     }
+}
+
+fn tool_call(turn: usize) -> Call {
+    measured(inputs::tool_parts()[turn % inputs::PARTS])
 }
 
 fn zero_call(turn: usize) -> Call {
@@ -55,8 +59,33 @@ fn line(number: usize) -> String {
         (None, _) if number % 50 == 9 => return "E,1,007".to_owned(),
         (None, _) => setting(number / 10 + 1),
     };
-    let (letter, fields) = fields_of(&call).expect("a line holds this call");
+    written(&call)
+}
+
+fn written(call: &Call) -> String {
+    let (letter, fields) = fields_of(call).expect("a line holds this call");
     write_line(letter, &fields)
+}
+
+/// How often the measurements of a job that measures alone are made.
+const TURNS: usize = 2;
+
+/// A job of measurements alone, behind the calibrations that they need.
+fn measuring(parts: &[ToolMeasurement]) -> Vec<u8> {
+    let calibrations = inputs::calibrations().into_iter().map(Call::Calibrate);
+    let parts = (0..TURNS).flat_map(|_| parts.iter().copied().map(measured));
+    let lines = calibrations.chain(parts).map(|call| written(&call) + "\n");
+    lines.collect::<String>().into_bytes()
+}
+
+/// Measurements as T lines.
+pub fn whole_lines() -> Vec<u8> {
+    measuring(&inputs::tool_parts())
+}
+
+/// The same measurements as G lines.
+pub fn float_lines() -> Vec<u8> {
+    measuring(&inputs::tool_reports())
 }
 
 /// The job's bytes.
@@ -95,6 +124,26 @@ mod tests {
         let counted = "3 lines, 20 bytes, 2 lines refused".to_owned();
         assert_eq!(summary("E,1,2\nE,1,02\nE,21,2\n"), Ok(counted));
         assert_eq!(summary(""), Err("refused: job is empty".to_owned()));
+    }
+
+    /// The measurements of both jobs, and the answers of one of them.
+    #[test]
+    fn float_lines_are_those_of_the_whole_ones_and_answer_alike() {
+        let (whole, floats) = (whole_lines(), float_lines());
+        let letters = |text: &[u8], letter: u8| {
+            let lines = text.split(|&byte| byte == b'\n');
+            lines.filter(|line| line.first() == Some(&letter)).count()
+        };
+        assert_eq!(letters(&whole, b'T'), TURNS * inputs::PARTS);
+        assert_eq!(letters(&floats, b'G'), TURNS * inputs::PARTS);
+        assert_eq!(letters(&floats, b'T'), 0);
+        let answers = fresh_job(&whole);
+        assert!(answers.is_ok());
+        assert_eq!(fresh_job(&floats), answers);
+        let mut output = vec![0; mezhtolik::job_room(&floats)];
+        let length = mezhtolik::Package::fresh().run_job(&floats, &mut output);
+        output.truncate(length.expect("a sound job"));
+        assert_eq!(Ok(output), answers);
     }
 
     #[test]

@@ -27,14 +27,14 @@ fn per_second(nanoseconds: f64) -> String {
 
 fn print_heading([first, second]: [&str; 2]) {
     println!(
-        "{:<16} {first:>12} {second:>12} {first:>12} {second:>12} {:>8}",
+        "{:<21} {first:>12} {second:>12} {first:>12} {second:>12} {:>8}",
         "", "ratio"
     );
 }
 
 fn print(row: &Row, timed: &Timed) {
     println!(
-        "{:<16} {:>9.1} ns {:>9.1} ns {:>10}/s {:>10}/s {:>8.2}",
+        "{:<21} {:>9.1} ns {:>9.1} ns {:>10}/s {:>10}/s {:>8.2}",
         row.name,
         timed.package,
         timed.other,
@@ -53,31 +53,47 @@ fn rounds() -> usize {
         .max(1)
 }
 
-/// The table of all calls, and the job against its limit.
+fn print_limit(row: &Row, timed: &Timed) {
+    println!("the limit: the lines and numbers of the same job only read, nothing evaluated");
+    print_heading(["run_job", "only read"]);
+    print(row, timed);
+    println!("run_job takes {:.1} times as long", 1.0 / timed.ratio());
+}
+
+fn print_floats(row: &Row, timed: &Timed) {
+    println!("a job of measurements alone: the same parts as T lines and as G lines");
+    print_heading(["T", "G"]);
+    print(row, timed);
+    println!(
+        "a G line takes {:.2} times as long as its T line; at most 1.1 is wanted",
+        timed.ratio()
+    );
+}
+
+/// The table of all calls, the job against its limit, G lines against T lines.
 fn time() -> Result<(), String> {
     let text = job::text();
+    let (whole, floats) = (job::whole_lines(), job::float_lines());
     let start = Start::calibrated();
     let rounds = rounds();
     let mut rows = rows::calls(&start, &text);
-    rows.push(rows::limit(&text));
+    let calls = rows.len();
+    rows.extend([rows::limit(&text), rows::floats(&whole, &floats)]);
     let timed = timing::time(&mut rows, rounds);
     println!("job: {}", job::summary(&text)?);
     println!("medians of {rounds} rounds, both sides in turns; ratio is the package's speed over the reference's");
     print_heading(["package", "reference"]);
-    let mut lines = rows.iter().zip(&timed);
-    let limit = lines.next_back();
-    lines.for_each(|(row, timed)| print(row, timed));
-    if let Some((row, timed)) = limit {
-        println!("the limit: the lines and numbers of the same job only read, nothing evaluated");
-        print_heading(["run_job", "only read"]);
+    for (row, timed) in rows.iter().zip(&timed).take(calls) {
         print(row, timed);
-        println!("run_job takes {:.1} times as long", 1.0 / timed.ratio());
     }
+    print_limit(&rows[calls], &timed[calls]);
+    print_floats(&rows[calls + 1], &timed[calls + 1]);
     Ok(())
 }
 
 fn count(paths: &[&str]) -> Result<(), String> {
     count::print(None)?;
+    count::print_floats()?;
     paths.iter().try_for_each(|path| count::print(Some(path)))
 }
 

@@ -1,11 +1,11 @@
 //! The lines and numbers of a job read and nothing else: a limit to the speed
 //! of a job. Every byte of a well-formed line is looked at once.
 
-use reference::line::LINE;
+use reference::line::{LINE, RAWS};
 
 /// What is told of the lines.
 trait Sink {
-    /// The next number of the line.
+    /// The next number of the line, or the bits of its next float.
     fn number(&mut self, number: i32);
     /// The line is at its end; no letter is that of a malformed one.
     fn line(&mut self, letter: Option<u8>);
@@ -35,7 +35,8 @@ impl Sink for Checksum {
 }
 
 /// "E,ev,value; W,tool,radius,length; O,offset,v1,v2,v3; C,probe,..": how many
-/// fields a letter has, 0 where it opens no line.
+/// fields a letter has, 0 where it opens no line. G, which has T's fields, is read
+/// apart.
 const FIELDS: [u8; 256] = {
     let mut fields = [0; 256];
     fields[b'E' as usize] = 2;
@@ -46,6 +47,23 @@ const FIELDS: [u8; 256] = {
     fields[b'Z' as usize] = 13;
     fields
 };
+
+/// How many fields a G line has.
+const FLOAT_FIELDS: usize = 21;
+
+/// The value of a hexadecimal digit, in lower case; [`NO_DIGIT`] of another byte.
+const HEXADECIMAL: [u8; 256] = {
+    let mut values = [NO_DIGIT; 256];
+    let mut value = 0;
+    while value < 16 {
+        values[b"0123456789abcdef"[value] as usize] = value as u8;
+        value += 1;
+    }
+    values
+};
+const NO_DIGIT: u8 = 0xff;
+/// The digits of a float's bits.
+const BITS_DIGITS: usize = 8;
 
 /// The most bytes of a field and the one that ends it: a minus, eight digits
 /// and a comma or line feed. A field has this many bytes before it, all at known
@@ -105,6 +123,24 @@ fn signed(window: &[u8; WINDOW]) -> Option<Field> {
     })
 }
 
+/// "eight lower-case hexadecimal digits of one float's bits, highest first".
+#[inline(always)]
+fn bits(window: &[u8; BITS_DIGITS + 1]) -> Option<Field> {
+    let (mut value, mut other) = (0, 0);
+    // unrolled by the compiler
+    for digit in &window[..BITS_DIGITS] {
+        let digit = HEXADECIMAL[usize::from(*digit)];
+        other |= digit;
+        value = value << 4 | u32::from(digit & 0xf);
+    }
+    let field = Field {
+        number: value as i32,
+        length: BITS_DIGITS,
+        end: window[BITS_DIGITS],
+    };
+    (other < 16).then_some(field)
+}
+
 /// A field of the last few bytes.
 #[cold]
 #[inline(never)]
@@ -112,6 +148,36 @@ fn last_field(rest: &[u8]) -> Option<Field> {
     let mut window = [0; WINDOW];
     window[..rest.len()].copy_from_slice(rest);
     signed(&window)
+}
+
+#[inline(always)]
+fn any_field(rest: &[u8]) -> Option<Field> {
+    match rest.first_chunk() {
+        Some(window) => signed(window),
+        None => last_field(rest),
+    }
+}
+
+/// The fields of a G line at the beginning of a text, and what comes after it;
+/// none for a malformed one.
+#[inline(always)]
+fn float_line<'a>(text: &[u8], fields: &'a [u8], sink: &mut impl Sink) -> Option<&'a [u8]> {
+    let mut rest = fields;
+    for place in 0..FLOAT_FIELDS {
+        let field = match RAWS.contains(&place) {
+            // never the last field, so that a comma comes behind it
+            true => bits(rest.first_chunk()?)?,
+            false => any_field(rest)?,
+        };
+        sink.number(field.number);
+        let last = place + 1 == FLOAT_FIELDS;
+        if field.end != if last { b'\n' } else { b',' } {
+            return None;
+        }
+        rest = rest.get(field.length + 1..)?;
+    }
+    let length = text.len() - rest.len() - 1;
+    (length <= LINE).then_some(rest)
 }
 
 /// Reads the line at the beginning and gives what comes after it; none for a
@@ -122,15 +188,15 @@ fn line<'a>(text: &'a [u8], sink: &mut impl Sink) -> Option<&'a [u8]> {
         return None;
     };
     let mut missing = FIELDS[usize::from(*letter)];
+    if *letter == b'G' {
+        return float_line(text, fields, sink);
+    }
     if missing == 0 {
         return None;
     }
     let mut rest = fields;
     loop {
-        let field = match rest.first_chunk() {
-            Some(window) => signed(window)?,
-            None => last_field(rest)?,
-        };
+        let field = any_field(rest)?;
         sink.number(field.number);
         missing = missing.wrapping_sub(1);
         rest = rest.get(field.length + 1..)?;
@@ -246,18 +312,46 @@ mod tests {
     /// Else the compiler could leave out the reading.
     #[test]
     fn the_checksum_depends_on_every_number_and_line() {
-        let fields: [i64; 21] = std::array::from_fn(|place| place as i64);
-        let text = |fields: &[i64; 21], end: &str| write_line('T', fields) + "\n" + end;
-        let sum = |text: String| checksum(text.as_bytes());
-        let plain = sum(text(&fields, "E,1,2\n"));
-        for place in 0..21 {
-            let mut changed = fields;
-            changed[place] += 1;
-            assert_ne!(sum(text(&changed, "E,1,2\n")), plain, "field {place}");
+        for letter in ['T', 'G'] {
+            let fields: [i64; 21] = std::array::from_fn(|place| place as i64);
+            let text = |fields: &[i64; 21], end: &str| write_line(letter, fields) + "\n" + end;
+            let sum = |text: String| checksum(text.as_bytes());
+            let plain = sum(text(&fields, "E,1,2\n"));
+            for place in 0..21 {
+                let mut changed = fields;
+                changed[place] += 1;
+                let changed = sum(text(&changed, "E,1,2\n"));
+                assert_ne!(changed, plain, "{letter}, field {place}");
+            }
+            for end in ["", "E,1,3\n", "E,1,02\n", "E,1,2\nE,1,2\n"] {
+                assert_ne!(sum(text(&fields, end)), plain, "{end}");
+            }
         }
-        for end in ["", "E,1,3\n", "E,1,02\n", "E,1,2\nE,1,2\n"] {
-            assert_ne!(sum(text(&fields, end)), plain, "{end}");
-        }
+    }
+
+    /// Each form of a float's digits, at each of their places, with and without
+    /// bytes after the line.
+    #[test]
+    fn forms_of_a_float() {
+        let digits = (0..=10).map(|length| "0123456789abcdef"[..length].to_owned());
+        let bytes = (0..=255u8).map(|byte| format!("0000000{}", char::from(byte)));
+        let forms = digits
+            .chain(bytes)
+            .chain(["ABCDEF01", "-0000000"].map(str::to_owned));
+        let line = |raws: [&str; 4]| {
+            let raws = raws.join(",");
+            format!("G,3,1,1,0,200000,0,0,{raws},4,0,2,5,20,100,150,-150,300,1000\n")
+        };
+        let texts = forms.flat_map(|form| {
+            [0, 1, 2, 3].map(|place| {
+                let mut raws = ["9abcdef0"; 4];
+                raws[place] = &form;
+                let end = ["", "E,1,1\n"][place % 2];
+                (line(raws) + end).into_bytes()
+            })
+        });
+        let counts = compare_all(texts);
+        assert!(counts.iter().all(|&count| count > 60), "{counts:?}");
     }
 
     /// Each form of a number, in the middle and at the end of a line, with and

@@ -104,60 +104,75 @@ fn of_reference() -> Calls {
     })
 }
 
-fn measurements(start: &Start) -> [Row<'_>; 2] {
-    let Calls {
-        measure_tool,
-        measure_zero,
-        ..
-    } = of_reference();
+/// Measurements with tool offset, whole or read by a float box.
+fn tool<'a>(name: &'static str, start: &'a Start, parts: Vec<ToolMeasurement>) -> Row<'a> {
+    let Calls { measure_tool, .. } = of_reference();
     let (mut ours, mut theirs) = ([0; 42], [0; 42]);
-    let (mut our_zero, mut their_zero) = (ours, theirs);
+    row(
+        name,
+        start,
+        both(parts, subject::tool),
+        move |package, part| {
+            let result = package.measure_tool(part, black_box(&mut ours), 0);
+            let _ = black_box(result);
+        },
+        move |package, part| {
+            let result = measure_tool(package, part, black_box(&mut theirs), 0);
+            let _ = black_box(result);
+        },
+    )
+}
+
+/// Measurements with zero offset, whole or read by a float box.
+fn zero<'a>(name: &'static str, start: &'a Start, parts: Vec<ZeroMeasurement>) -> Row<'a> {
+    let Calls { measure_zero, .. } = of_reference();
+    let (mut ours, mut theirs) = ([0; 42], [0; 42]);
+    row(
+        name,
+        start,
+        both(parts, subject::zero),
+        move |package, part| {
+            let result = package.measure_zero(part, black_box(&mut ours), 0);
+            let _ = black_box(result);
+        },
+        move |package, part| {
+            let result = measure_zero(package, part, black_box(&mut theirs), 0);
+            let _ = black_box(result);
+        },
+    )
+}
+
+/// Calibrations, whole or read by a float box.
+fn calibration<'a>(name: &'static str, start: &'a Start, all: Vec<Calibration>) -> Row<'a> {
+    let Calls { calibrate, .. } = of_reference();
+    row(
+        name,
+        start,
+        both(all, subject::calibration),
+        |package, calibration| {
+            let _ = black_box(package.calibrate(calibration));
+        },
+        move |package, calibration| {
+            let _ = black_box(calibrate(package, calibration));
+        },
+    )
+}
+
+fn measurements(start: &Start) -> [Row<'_>; 4] {
     [
-        row(
-            "measure_tool",
-            start,
-            both(inputs::tool_parts(), subject::tool),
-            move |package, part| {
-                let result = package.measure_tool(part, black_box(&mut ours), 0);
-                let _ = black_box(result);
-            },
-            move |package, part| {
-                let result = measure_tool(package, part, black_box(&mut theirs), 0);
-                let _ = black_box(result);
-            },
-        ),
-        row(
-            "measure_zero",
-            start,
-            both(inputs::zero_parts(), subject::zero),
-            move |package, part| {
-                let result = package.measure_zero(part, black_box(&mut our_zero), 0);
-                let _ = black_box(result);
-            },
-            move |package, part| {
-                let result = measure_zero(package, part, black_box(&mut their_zero), 0);
-                let _ = black_box(result);
-            },
-        ),
+        tool("measure_tool", start, inputs::tool_parts()),
+        tool("measure_tool_readings", start, inputs::tool_reports()),
+        zero("measure_zero", start, inputs::zero_parts()),
+        zero("measure_zero_readings", start, inputs::zero_reports()),
     ]
 }
 
-fn probes(start: &Start) -> [Row<'_>; 2] {
-    let Calls {
-        calibrate, status, ..
-    } = of_reference();
+fn probes(start: &Start) -> [Row<'_>; 3] {
+    let Calls { status, .. } = of_reference();
+    let reported = inputs::reported_recalibrations();
     [
-        row(
-            "calibrate",
-            start,
-            both(inputs::recalibrations(), subject::calibration),
-            |package, calibration| {
-                let _ = black_box(package.calibrate(calibration));
-            },
-            move |package, calibration| {
-                let _ = black_box(calibrate(package, calibration));
-            },
-        ),
+        calibration("calibrate", start, inputs::recalibrations()),
+        calibration("calibrate_report", start, reported),
         row(
             "probe_status",
             start,
@@ -298,6 +313,16 @@ pub fn limit(job_text: &[u8]) -> Row<'_> {
     job("a line", job_text, Side::Reading)
 }
 
+/// Measurements as T lines, and the same as G lines.
+pub fn floats<'a>(whole: &'a [u8], floats: &'a [u8]) -> Row<'a> {
+    Row {
+        name: "a line",
+        count: lines(whole),
+        package: Side::Package.work(whole),
+        other: Side::Package.work(floats),
+    }
+}
+
 #[cfg(test)]
 mod tests {
     use super::*;
@@ -316,31 +341,33 @@ mod tests {
         counts
     }
 
+    fn tool_call(measurement: ToolMeasurement) -> Call {
+        Call::MeasureTool {
+            measurement,
+            array: vec![0; 42],
+            place: 0,
+        }
+    }
+
+    fn zero_call(measurement: ZeroMeasurement) -> Call {
+        Call::MeasureZero {
+            measurement,
+            array: vec![0; 42],
+            place: 0,
+        }
+    }
+
     #[test]
     fn parts_end_in_every_branch_and_few_are_refused() {
-        let tool =
-            branches(
-                inputs::tool_parts()
-                    .into_iter()
-                    .map(|measurement| Call::MeasureTool {
-                        measurement,
-                        array: vec![0; 42],
-                        place: 0,
-                    }),
-            );
+        let tool = branches(inputs::tool_parts().into_iter().map(tool_call));
         assert!(tool[1..=5].iter().all(|&count| count >= 5), "{tool:?}");
         assert!(tool[0] <= inputs::PARTS / 5, "{tool:?}");
-        let zero =
-            branches(
-                inputs::zero_parts()
-                    .into_iter()
-                    .map(|measurement| Call::MeasureZero {
-                        measurement,
-                        array: vec![0; 42],
-                        place: 0,
-                    }),
-            );
+        let zero = branches(inputs::zero_parts().into_iter().map(zero_call));
         assert!(zero[6] >= inputs::PARTS * 4 / 5, "{zero:?}");
+        let reported = branches(inputs::tool_reports().into_iter().map(tool_call));
+        assert_eq!(reported, tool);
+        let reported = branches(inputs::zero_reports().into_iter().map(zero_call));
+        assert_eq!(reported, zero);
     }
 
     /// The names of the calls that the C header declares.
@@ -363,7 +390,9 @@ mod tests {
 
     #[test]
     fn recalibrations_are_done() {
-        let calls = inputs::recalibrations().into_iter().map(Call::Calibrate);
+        let reported = inputs::reported_recalibrations();
+        let calls = inputs::recalibrations().into_iter().chain(reported);
+        let calls = calls.map(Call::Calibrate);
         let mut pair = Pair::of_area(layout::numbers(inputs::calibrated().records()));
         for call in calls {
             let answer = pair.step(&call).unwrap_or_else(|found| panic!("{found}"));

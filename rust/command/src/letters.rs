@@ -1,5 +1,8 @@
 //! The letters of job lines in words: a row for each, with those of its fields that say what the line is about.
 
+use reference::line::read_bits;
+
+use crate::floats;
 use crate::units::Unit;
 use crate::words;
 
@@ -14,6 +17,8 @@ enum Field {
     Kind,
     Axis,
     Direction,
+    /// A raw of this number that a float box read, where the line's kind uses it.
+    Float(usize),
 }
 
 /// One letter. Fields are counted from 0, behind the letter.
@@ -23,7 +28,7 @@ struct Letter {
     fields: &'static [(usize, Field)],
 }
 
-const LETTERS: [Letter; 6] = [
+const LETTERS: [Letter; 7] = [
     Letter {
         letter: "E",
         words: "sets an empirical value",
@@ -80,6 +85,21 @@ const LETTERS: [Letter; 6] = [
             (11, Field::Number("offset")),
         ],
     },
+    Letter {
+        letter: "G",
+        words: "measures with tool offset what a float box read",
+        fields: &[
+            (0, Field::Kind),
+            (1, Field::Number("probe")),
+            (7, Field::Float(1)),
+            (8, Field::Float(2)),
+            (9, Field::Float(3)),
+            (10, Field::Float(4)),
+            (11, Field::Number("tool")),
+            (12, Field::Optional("EV")),
+            (13, Field::Optional("MV")),
+        ],
+    },
 ];
 
 /// A number in words, or the number under its name where it has none.
@@ -92,16 +112,32 @@ fn word(words: &[&'static str], first: i32, number: i32) -> Option<&'static str>
     words.get(usize::try_from(number - first).ok()?).copied()
 }
 
+/// A raw of a line, its bits in millimetres and units; none where the kind does not use it.
+fn float(raw: usize, kind: &str, bits: &str) -> Option<String> {
+    let used = raw <= words::raws(kind.parse().ok()?);
+    let bits = read_bits(bits.as_bytes()).filter(|_| used)?;
+    Some(format!("r{raw} {}", floats::said(bits)))
+}
+
 impl Field {
-    fn said(&self, number: i32) -> String {
+    /// What a field of a line of this kind says, if it says something.
+    fn said(&self, text: &str, kind: &str) -> Option<String> {
+        let number = || text.parse().ok();
         match self {
-            Field::Number(name) => format!("{name} {number}"),
-            Field::Optional(name) if number == 0 => format!("no {name}"),
-            Field::Optional(name) => format!("{name} {number}"),
-            Field::Length(name, unit) => format!("{name} {}", unit.micrometres(number)),
-            Field::Kind => named(words::kind(number.into()), "kind", number),
-            Field::Axis => named(word(&words::AXES, 1, number), "axis", number),
-            Field::Direction => named(word(&words::DIRECTIONS, 0, number), "direction", number),
+            Field::Number(name) => number().map(|number: i32| format!("{name} {number}")),
+            Field::Optional(name) => number().map(|number: i32| match number {
+                0 => format!("no {name}"),
+                _ => format!("{name} {number}"),
+            }),
+            Field::Length(name, unit) => {
+                number().map(|number| format!("{name} {}", unit.micrometres(number)))
+            }
+            Field::Kind => number().map(|n: i32| named(words::kind(n.into()), "kind", n)),
+            Field::Axis => number().map(|n| named(word(&words::AXES, 1, n), "axis", n)),
+            Field::Direction => {
+                number().map(|n| named(word(&words::DIRECTIONS, 0, n), "direction", n))
+            }
+            Field::Float(raw) => float(*raw, kind, text),
         }
     }
 }
@@ -120,9 +156,40 @@ pub fn line(text: &[u8], malformed: bool) -> String {
         return named;
     }
     let given: Vec<&str> = parts.collect();
+    let kind = given.first().copied().unwrap_or_default();
     let fields = letter
         .fields
         .iter()
-        .filter_map(|(place, field)| Some(field.said(given.get(*place)?.parse().ok()?)));
+        .filter_map(|(place, field)| field.said(given.get(*place)?, kind));
     format!("{named}: {}", fields.collect::<Vec<_>>().join(", "))
+}
+
+#[cfg(test)]
+mod tests {
+    use super::*;
+
+    fn said(kind: &str, raws: &str) -> String {
+        let text = format!("G,{kind},1,2,0,200000,0,0,{raws},4,0,2,5,20,100,150,-150,300,1000");
+        let said = line(text.as_bytes(), false);
+        let (named, fields) = said.split_once(": ").unwrap();
+        assert_eq!(named, "G, measures with tool offset what a float box read");
+        fields.to_owned()
+    }
+
+    #[test]
+    fn floats_are_said_where_the_kind_uses_them() {
+        let raws = "c11f374c,411f47ae,7fc00000,3f800000";
+        let (low, high) = ("r1 -9.951 mm (-99510 u)", "r2 9.955 mm (99550 u)");
+        let rest = "tool 4, no EV, MV 2";
+        assert_eq!(said("0", raws), format!("plane, probe 1, {low}, {rest}"));
+        assert_eq!(
+            said("3", raws),
+            format!("groove, probe 1, {low}, {high}, {rest}")
+        );
+        assert_eq!(
+            said("1", raws),
+            format!("hole, probe 1, {low}, {high}, r3 no number, r4 1 mm (10000 u), {rest}")
+        );
+        assert_eq!(said("9", raws), format!("kind 9, probe 1, {rest}"));
+    }
 }

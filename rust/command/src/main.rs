@@ -4,6 +4,7 @@ mod answers;
 mod drift;
 mod failure;
 mod files;
+mod floats;
 mod letters;
 mod options;
 mod records;

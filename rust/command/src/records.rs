@@ -1,6 +1,6 @@
 //! The records of a package by name. Each store is a row of one table: how many records it has, what they are called, how one is read and put.
 
-use mezhtolik::{Calibration, Package, Refusal, BLOCK, NEGATIVE, POSITIVE};
+use mezhtolik::{Calibration, Package, Reading, Refusal, BLOCK, NEGATIVE, POSITIVE};
 
 use crate::units::Unit;
 use crate::words;
@@ -131,7 +131,7 @@ impl Direction {
             axis: self.axis as i64,
             direction: self.direction,
             setpoint,
-            raw: 0,
+            raw: Reading::Whole(0),
             tzl: 0,
             tsa: 1_000_000,
         })

@@ -7,19 +7,30 @@ pub const AXES: [&str; 3] = ["abscissa", "ordinate", "applicate"];
 /// The directions 0 and 1.
 pub const DIRECTIONS: [&str; 2] = ["positive", "negative"];
 
-/// The kinds with tool offset; with zero offset they are 100 more.
-const KINDS: [(i64, &str); 5] = [
-    (kind::PLANE, "plane"),
-    (kind::HOLE, "hole"),
-    (kind::SHAFT, "shaft"),
-    (kind::GROOVE, "groove"),
-    (kind::WEB, "web"),
+/// A kind with tool offset, with zero offset 100 more: its number, its name, and how many raws it uses.
+type Kind = (i64, &'static str, usize);
+
+const KINDS: [Kind; 5] = [
+    (kind::PLANE, "plane", 1),
+    (kind::HOLE, "hole", 4),
+    (kind::SHAFT, "shaft", 4),
+    (kind::GROOVE, "groove", 2),
+    (kind::WEB, "web", 2),
 ];
+
+fn row(number: i64) -> Option<&'static Kind> {
+    let same = |row: &&Kind| [row.0, row.0 + kind::ZERO_OFFSET].contains(&number);
+    KINDS.iter().find(same)
+}
 
 /// A kind of a measurement in words, if there is such a kind.
 pub fn kind(number: i64) -> Option<&'static str> {
-    let same = |&&(kind, _): &&(i64, &str)| [kind, kind + kind::ZERO_OFFSET].contains(&number);
-    KINDS.iter().find(same).map(|row| row.1)
+    row(number).map(|row| row.1)
+}
+
+/// How many raws a kind uses, from the first on; none if there is no such kind.
+pub fn raws(number: i64) -> usize {
+    row(number).map_or(0, |row| row.2)
 }
 
 /// What a measurement did with the deviation.

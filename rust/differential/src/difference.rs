@@ -19,6 +19,8 @@ pub enum Difference {
     Bounds(Vec<Breach>),
     /// A slice of a wrong length: what was not as it should be.
     Length(String),
+    /// The same measurement, lent as readings, answers or leaves something else.
+    Lent(String),
 }
 
 impl fmt::Display for Difference {
@@ -44,6 +46,7 @@ impl fmt::Display for Difference {
                 )
             }
             Difference::Length(what) => write!(f, "a slice of a wrong length: {what}"),
+            Difference::Lent(what) => write!(f, "the same lent as readings differs\n{what}"),
         }
     }
 }

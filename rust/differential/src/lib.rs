@@ -7,6 +7,7 @@
 mod difference;
 pub mod layout;
 mod lengths;
+mod lent;
 mod list;
 mod odd;
 mod pair;

@@ -3,6 +3,7 @@
 use crate::difference::Difference;
 use crate::layout::{self, Area};
 use crate::lengths;
+use crate::lent;
 use crate::odd::odd_area;
 use crate::pair::Pair;
 use crate::tally::Tally;
@@ -14,6 +15,8 @@ use reference::{Call, Fault, Package};
 const ODD_PERCENT: usize = 20;
 /// One call in so many is also made with slices of wrong lengths.
 const LENGTHS_EVERY: usize = 16;
+/// One call in so many, if it measures, is also made by the call with readings.
+const LENT_EVERY: usize = 4;
 
 /// Calls and what they begin with; `None` is fresh.
 #[derive(Clone, Debug)]
@@ -84,6 +87,10 @@ impl List {
             if index % LENGTHS_EVERY == 0 {
                 tally.wrong_lengths += wrong_lengths(&pair, call, index).map_err(stop)?;
             }
+            if index % LENT_EVERY == 1 {
+                let area = pair.package().area();
+                tally.lent_otherwise += lent::otherwise(area, call, index as u64).map_err(stop)?;
+            }
             let answer = pair.step(call).map_err(stop)?;
             tally.add(call, &answer);
             if let Some(reckoning) = &mut reckoning {
@@ -131,7 +138,8 @@ fn wrong_lengths(pair: &Pair, call: &Call, index: usize) -> Result<u64, Differen
     let extra = [-1, 1, isize::MIN, 5][turn % 4];
     lengths::wrong_area(area, call, length)?;
     lengths::wrong_arguments(area, call, extra)?;
-    Ok(2)
+    lengths::wrong_floats(area, call, extra)?;
+    Ok(3)
 }
 
 #[cfg(test)]

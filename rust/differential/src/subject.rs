@@ -1,7 +1,17 @@
 //! The reference's calls made on the package.
 
-use mezhtolik::{Decision, Limits, Package, Probing, Refusal};
+use mezhtolik::{Decision, Limits, Package, Probing, Reading, Refusal, Report};
 use reference::{Answer, Call};
+
+/// The package's form of a reading.
+fn reading(reading: &reference::Reading) -> Reading {
+    match *reading {
+        reference::Reading::Whole(position) => Reading::Whole(position),
+        reference::Reading::Report(reference::Report { x, y, z }) => {
+            Reading::Report(Report { x, y, z })
+        }
+    }
+}
 
 fn probing(feature: &reference::Feature) -> Probing {
     Probing {
@@ -11,7 +21,7 @@ fn probing(feature: &reference::Feature) -> Probing {
         direction: feature.direction,
         setpoint: feature.setpoint,
         set_centre: feature.centre,
-        raws: feature.raws,
+        raws: feature.raws.each_ref().map(reading),
     }
 }
 
@@ -51,7 +61,7 @@ pub fn calibration(call: &reference::Calibration) -> mezhtolik::Calibration {
         axis: call.axis,
         direction: call.direction,
         setpoint: call.setpoint,
-        raw: call.raw,
+        raw: reading(&call.raw),
         tzl: call.tzl,
         tsa: call.tsa,
     }

@@ -28,11 +28,10 @@ fn a_sound_reference_shows_none() {
     tally.unwrap_or_else(|found| panic!("{found}"));
 }
 
-/// No line of a job loads a block.
 #[test]
-fn jobs_find_every_other_fault_and_show_it_in_few_lines() {
+fn jobs_find_every_fault_that_their_lines_can_show_and_show_it_in_few_lines() {
     for fault in Fault::ALL {
-        if fault == Fault::UnsignedBytes {
+        if !fault.shows_in_jobs() {
             continue;
         }
         let found = plan(0, Plan::default().jobs, Some(fault)).run();

@@ -11,10 +11,26 @@ fn every_refusal_and_branch_is_met() {
         ..Plan::default()
     };
     let tally = plan.run().unwrap_or_else(|found| panic!("{found}"));
-    assert_eq!(tally.refusals(), [0, 1, 2, 3, 4, 5, 6, 7, 8, 9, 11, 12]);
+    let refusals = [0, 1, 2, 3, 4, 5, 6, 7, 8, 9, 11, 12, 13];
+    assert_eq!(tally.refusals(), refusals);
     assert_eq!(tally.branches(), [1, 2, 3, 4, 5, 6]);
     assert!(tally.wrong_lengths > 5_000);
+    assert!(tally.lent_otherwise > 5_000);
+    assert!(tally.readings().iter().all(|&count| count > 50_000));
     assert!(tally.odd_lists > 10 && tally.odd_lists < tally.lists / 2);
+}
+
+#[test]
+fn jobs_have_float_lines_of_each_sort() {
+    let plan = Plan {
+        calls: 0,
+        jobs: 600,
+        ..Plan::default()
+    };
+    let tally = plan.run().unwrap_or_else(|found| panic!("{found}"));
+    for (refusal, least) in [(0, 500), (2, 500), (3, 40), (10, 200), (13, 100)] {
+        assert!(tally.float_lines(refusal) > least, "{refusal}: {tally}");
+    }
 }
 
 /// Of lists from an area of any content alone.

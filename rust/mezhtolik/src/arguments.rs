@@ -1,6 +1,8 @@
 //! What the calls are given. Any number is allowed everywhere: one that does
 //! not fit is refused.
 
+use crate::reading::{Reading, REPORTS};
+
 /// The numbers of the kinds, [`Probing::kind`].
 pub mod kind {
     /// One surface.
@@ -27,7 +29,8 @@ pub const TOOL_ARGUMENTS: usize = 21;
 /// How many arguments a measurement with zero offset has.
 pub const ZERO_ARGUMENTS: usize = 13;
 
-/// A calibration of one direction of a probe, as a `C` line.
+/// A calibration of one direction of a probe, as a `C` line; its raw may also be
+/// a report.
 #[derive(Clone, Copy, Debug, Default, PartialEq, Eq)]
 pub struct Calibration {
     /// 1..3.
@@ -38,8 +41,8 @@ pub struct Calibration {
     pub direction: i64,
     /// Where the surface is, within ±10,000,000 u.
     pub setpoint: i64,
-    /// Where the probe triggered, within ±10,000,000 u.
-    pub raw: i64,
+    /// Where the probe triggered.
+    pub raw: Reading,
     /// A change within it leaves the stored trigger; 0..TSA.
     pub tzl: i64,
     /// A change beyond it is refused; at most 1,000,000 u.
@@ -47,7 +50,7 @@ pub struct Calibration {
 }
 
 impl Calibration {
-    /// In the order of a `C` line.
+    /// In the order of a `C` line; for a raw that is a report 0.
     #[inline]
     pub const fn numbers(&self) -> [i64; 7] {
         [
@@ -55,7 +58,7 @@ impl Calibration {
             self.axis,
             self.direction,
             self.setpoint,
-            self.raw,
+            self.raw.whole(),
             self.tzl,
             self.tsa,
         ]
@@ -77,9 +80,37 @@ pub struct Probing {
     pub setpoint: i64,
     /// The set centre on axes 1 and 2, within ±10,000,000 u.
     pub set_centre: [i64; 2],
-    /// Where the probe triggered, within ±10,000,000 u: plane one, groove and
-    /// web low and high, hole and shaft abscissa low, high, ordinate low, high.
-    pub raws: [i64; 4],
+    /// Where the probe triggered: plane one, groove and web low and high, hole
+    /// and shaft abscissa low, high, ordinate low, high. Each by itself is whole
+    /// or a report.
+    pub raws: [Reading; 4],
+}
+
+impl Probing {
+    /// The whole raws, 0 for a report.
+    #[inline]
+    const fn whole_raws(&self) -> [i64; 4] {
+        let [r1, r2, r3, r4] = self.raws;
+        [r1.whole(), r2.whole(), r3.whole(), r4.whole()]
+    }
+
+    /// Which raws are reports: bit n - 1 for raw n, 0 where all are whole.
+    #[inline]
+    pub const fn reported(&self) -> u32 {
+        let [r1, r2, r3, r4] = self.raws;
+        r1.reported() | r2.reported() << 1 | r3.reported() << 2 | r4.reported() << 3
+    }
+
+    /// X, Y, Z of each raw, zeros for a whole one.
+    #[inline]
+    pub const fn reports(&self) -> [f32; REPORTS] {
+        let [r1, r2, r3, r4] = self.raws;
+        let [x1, y1, z1] = r1.floats();
+        let [x2, y2, z2] = r2.floats();
+        let [x3, y3, z3] = r3.floats();
+        let [x4, y4, z4] = r4.floats();
+        [x1, y1, z1, x2, y2, z2, x3, y3, z3, x4, y4, z4]
+    }
 }
 
 /// The limits of a measurement with tool offset, in u:
@@ -100,7 +131,7 @@ pub struct Limits {
     pub tsa: i64,
 }
 
-/// A measurement with tool offset, as a `T` line.
+/// A measurement with tool offset, as a `T` or `G` line.
 #[derive(Clone, Copy, Debug, Default, PartialEq, Eq)]
 pub struct ToolMeasurement {
     /// What is touched.
@@ -118,7 +149,7 @@ pub struct ToolMeasurement {
 }
 
 impl ToolMeasurement {
-    /// In the order of a `T` line.
+    /// In the order of a `T` line; for a raw that is a report 0.
     #[inline]
     pub const fn numbers(&self) -> [i64; TOOL_ARGUMENTS] {
         let Probing {
@@ -128,8 +159,9 @@ impl ToolMeasurement {
             direction,
             setpoint,
             set_centre: [c1, c2],
-            raws: [r1, r2, r3, r4],
+            ..
         } = self.probing;
+        let [r1, r2, r3, r4] = self.probing.whole_raws();
         let Limits {
             tzl,
             tmv,
@@ -145,7 +177,7 @@ impl ToolMeasurement {
     }
 }
 
-/// A measurement with zero offset, as a `Z` line.
+/// A measurement with zero offset, as a `Z` line; its raws may also be reports.
 #[derive(Clone, Copy, Debug, Default, PartialEq, Eq)]
 pub struct ZeroMeasurement {
     /// What is touched.
@@ -157,7 +189,7 @@ pub struct ZeroMeasurement {
 }
 
 impl ZeroMeasurement {
-    /// In the order of a `Z` line.
+    /// In the order of a `Z` line; for a raw that is a report 0.
     #[inline]
     pub const fn numbers(&self) -> [i64; ZERO_ARGUMENTS] {
         let Probing {
@@ -167,8 +199,9 @@ impl ZeroMeasurement {
             direction,
             setpoint,
             set_centre: [c1, c2],
-            raws: [r1, r2, r3, r4],
+            ..
         } = self.probing;
+        let [r1, r2, r3, r4] = self.probing.whole_raws();
         [
             kind,
             probe,

@@ -3,8 +3,12 @@
 //! For those who keep the area themselves; [`Package`](crate::Package) is the
 //! same with types. Each function answers for slices of any length and any
 //! content: an area that has not [`AREA`](crate::AREA) numbers is refused by
-//! 100, a measurement's arguments that are not as many as they should be by
-//! 101, and both leave everything as it was.
+//! 100, a measurement's arguments or floats that are not as many as they should
+//! be by 101, and both leave everything as it was.
+//!
+//! Reports of a float box are lent as 12 floats, X, Y, Z of each raw, with a
+//! number whose bit n - 1 says that raw n is its report; else raw n is the whole
+//! number among the arguments. What is not used is not looked at.
 #![allow(unsafe_code)]
 
 /// What a measurement answers; branch and verdict are 0 where it is refused.
@@ -71,6 +75,19 @@ extern "C" {
         tzl: i64,
         tsa: i64,
     ) -> u32;
+    fn mezhtolik_calibrate_report(
+        area: *mut i32,
+        area_length: usize,
+        probe: i64,
+        axis: i64,
+        direction: i64,
+        setpoint: i64,
+        x: f32,
+        y: f32,
+        z: f32,
+        tzl: i64,
+        tsa: i64,
+    ) -> u32;
     fn mezhtolik_probe_status(area: *const i32, area_length: usize, probe: i64) -> RawStatus;
     fn mezhtolik_measure_tool(
         area: *mut i32,
@@ -86,6 +103,30 @@ extern "C" {
         area_length: usize,
         arguments: *const i64,
         arguments_length: usize,
+        results: *mut i32,
+        results_length: usize,
+        place: usize,
+    ) -> RawDecision;
+    fn mezhtolik_measure_tool_readings(
+        area: *mut i32,
+        area_length: usize,
+        arguments: *const i64,
+        arguments_length: usize,
+        reports: *const f32,
+        reports_length: usize,
+        reported: u32,
+        results: *mut i32,
+        results_length: usize,
+        place: usize,
+    ) -> RawDecision;
+    fn mezhtolik_measure_zero_readings(
+        area: *mut i32,
+        area_length: usize,
+        arguments: *const i64,
+        arguments_length: usize,
+        reports: *const f32,
+        reports_length: usize,
+        reported: u32,
         results: *mut i32,
         results_length: usize,
         place: usize,
@@ -151,6 +192,19 @@ pub fn calibrate(area: &mut [i32], arguments: [i64; 7]) -> u32 {
     }
 }
 
+/// Calibrates one direction of a probe by a report, X, Y, Z; the arguments in the
+/// order of a C line, whose raw is not looked at.
+#[inline]
+pub fn calibrate_report(area: &mut [i32], arguments: [i64; 7], [x, y, z]: [f32; 3]) -> u32 {
+    let [probe, axis, direction, setpoint, _, tzl, tsa] = arguments;
+    let (area, length) = (area.as_mut_ptr(), area.len());
+    unsafe {
+        mezhtolik_calibrate_report(
+            area, length, probe, axis, direction, setpoint, x, y, z, tzl, tsa,
+        )
+    }
+}
+
 /// Reads the status of a probe.
 #[inline]
 pub fn probe_status(area: &[i32], probe: i64) -> RawStatus {
@@ -202,6 +256,73 @@ pub fn measure_zero(
     place: usize,
 ) -> RawDecision {
     measure(mezhtolik_measure_zero, area, arguments, results, place)
+}
+
+/// One of the two calls that measure with readings.
+type MeasureReadings = unsafe extern "C" fn(
+    *mut i32,
+    usize,
+    *const i64,
+    usize,
+    *const f32,
+    usize,
+    u32,
+    *mut i32,
+    usize,
+    usize,
+) -> RawDecision;
+
+#[inline]
+fn measure_readings(
+    call: MeasureReadings,
+    area: &mut [i32],
+    arguments: &[i64],
+    (reports, reported): (&[f32], u32),
+    results: &mut [i32],
+    place: usize,
+) -> RawDecision {
+    unsafe {
+        call(
+            area.as_mut_ptr(),
+            area.len(),
+            arguments.as_ptr(),
+            arguments.len(),
+            reports.as_ptr(),
+            reports.len(),
+            reported,
+            results.as_mut_ptr(),
+            results.len(),
+            place,
+        )
+    }
+}
+
+/// Measures with tool offset and with readings: the arguments of
+/// [`measure_tool`], the 12 floats of the reports, and which raws are reports.
+#[inline]
+pub fn measure_tool_readings(
+    area: &mut [i32],
+    arguments: &[i64],
+    reports: (&[f32], u32),
+    results: &mut [i32],
+    place: usize,
+) -> RawDecision {
+    let call = mezhtolik_measure_tool_readings;
+    measure_readings(call, area, arguments, reports, results, place)
+}
+
+/// Measures with zero offset and with readings: the arguments of
+/// [`measure_zero`], the 12 floats of the reports, and which raws are reports.
+#[inline]
+pub fn measure_zero_readings(
+    area: &mut [i32],
+    arguments: &[i64],
+    reports: (&[f32], u32),
+    results: &mut [i32],
+    place: usize,
+) -> RawDecision {
+    let call = mezhtolik_measure_zero_readings;
+    measure_readings(call, area, arguments, reports, results, place)
 }
 
 /// Replaces all empirical and mean values by those of a block.

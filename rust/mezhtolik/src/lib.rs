@@ -6,7 +6,8 @@
 //! call takes any argument and answers a result or a [`Refusal`].
 //!
 //! A unit (u) is 0.1 µm: positions, limits, empirical and mean values. A half
-//! unit (h) is 0.05 µm: wears and zero offsets.
+//! unit (h) is 0.05 µm: wears and zero offsets. What was read at a touch is a
+//! [`Reading`]: a whole position in u, or a [`Report`] of a float box in mm.
 //!
 //! To build it, run `rt staticlib boundary` at the root of the repository, or
 //! set `MEZHTOLIK_LIB_DIR` to the folder of `libboundary.a`.
@@ -16,6 +17,7 @@ mod arguments;
 pub mod boundary;
 mod decision;
 mod package;
+mod reading;
 mod records;
 mod refusal;
 mod results;
@@ -26,6 +28,7 @@ pub use arguments::{
 };
 pub use decision::{Branch, Decision, ProbeStatus, Verdict};
 pub use package::{job_room, Package, AREA, BLOCK};
+pub use reading::{Reading, Report, REPORTS};
 pub use records::Wear;
 pub use refusal::Refusal;
 pub use results::{Results, RESULTS};

@@ -3,6 +3,7 @@
 use crate::arguments::{Calibration, ToolMeasurement, ZeroMeasurement};
 use crate::boundary;
 use crate::decision::{Decision, ProbeStatus};
+use crate::reading::Reading;
 use crate::refusal::{outcome, Refusal};
 
 /// How many numbers hold all records of a package.
@@ -93,7 +94,7 @@ impl Package {
     /// calibrated either way.
     ///
     /// ```
-    /// use mezhtolik::{Calibration, Package, POSITIVE};
+    /// use mezhtolik::{Calibration, Package, Reading, Report, NEGATIVE, POSITIVE};
     /// let mut package = Package::fresh();
     /// // C,1,1,0,0,-500,0,1000
     /// package.calibrate(&Calibration {
@@ -101,17 +102,32 @@ impl Package {
     ///     axis: 1,
     ///     direction: POSITIVE,
     ///     setpoint: 0,
-    ///     raw: -500,
+    ///     raw: Reading::Whole(-500),
     ///     tzl: 0,
     ///     tsa: 1000,
     /// })?;
     /// assert_eq!(package.trigger(1, 1, POSITIVE), Some(500));
-    /// assert_eq!(package.probe_status(1)?.count, 1);
+    ///
+    /// // the same wall from the other side, by the X of a float box
+    /// package.calibrate(&Calibration {
+    ///     probe: 1,
+    ///     axis: 1,
+    ///     direction: NEGATIVE,
+    ///     raw: Reading::Report(Report { x: 0.05, y: 71.25, z: f32::NAN }),
+    ///     tsa: 1000,
+    ///     ..Default::default()
+    /// })?;
+    /// assert_eq!(package.trigger(1, 1, NEGATIVE), Some(500));
+    /// assert_eq!(package.probe_status(1)?.count, 2);
     /// # Ok::<(), mezhtolik::Refusal>(())
     /// ```
     #[inline]
     pub fn calibrate(&mut self, calibration: &Calibration) -> Result<(), Refusal> {
-        outcome(boundary::calibrate(&mut self.area, calibration.numbers()))
+        let (area, arguments) = (&mut self.area, calibration.numbers());
+        outcome(match calibration.raw {
+            Reading::Whole(_) => boundary::calibrate(area, arguments),
+            Reading::Report(report) => boundary::calibrate_report(area, arguments, report.floats()),
+        })
     }
 
     /// Which directions of a probe (1..3) are calibrated.
@@ -135,6 +151,7 @@ impl Package {
     /// // C,1,1,0,0,-500,0,1000 and C,1,1,1,0,500,0,1000
     /// for (direction, raw) in [(POSITIVE, -500), (NEGATIVE, 500)] {
     ///     let tsa = 1000;
+    ///     let raw = Reading::Whole(raw);
     ///     package.calibrate(&Calibration { probe: 1, axis: 1, direction, raw, tsa, ..Default::default() })?;
     /// }
     /// // T,3,1,1,0,200000,0,0,-99510,99550,0,0,4,0,2,5,20,100,150,-150,300,1000
@@ -144,7 +161,7 @@ impl Package {
     ///         probe: 1,
     ///         axis: 1,
     ///         setpoint: 200_000,
-    ///         raws: [-99_510, 99_550, 0, 0],
+    ///         raws: [-99_510, 99_550, 0, 0].map(Reading::Whole),
     ///         ..Probing::default()
     ///     },
     ///     tool: 4,
@@ -159,7 +176,7 @@ impl Package {
     /// assert_eq!((results.deviation(), results.correction()), (60, 0));
     ///
     /// // T,3,1,1,0,200000,0,0,-99510,99640,0,0,4,0,2,5,20,100,150,-150,300,1000
-    /// part.probing.raws[1] = 99_640;
+    /// part.probing.raws[1] = Reading::Whole(99_640);
     /// let second = package.measure_tool(&part, results.numbers_mut(), 0)?;
     /// assert_eq!(second.branch, Branch::Full);
     /// assert_eq!((results.deviation(), results.correction()), (150, 150));
@@ -170,6 +187,15 @@ impl Package {
     /// assert_eq!(third, Err(Refusal::Uncalibrated));
     /// assert_eq!(results.refusal(), 5);
     /// assert_eq!(package.wear(4).unwrap().radius, 150);
+    ///
+    /// // the first part again, its high wall read by a float box
+    /// part.probing.axis = 1;
+    /// part.probing.raws[1] = Reading::Report(Report { x: 9.955, y: 0.0, z: 0.0 });
+    /// package.measure_tool(&part, results.numbers_mut(), 0)?;
+    /// assert_eq!(results.deviation(), 60);
+    /// part.probing.raws[1] = Reading::Report(Report { x: 9955.0, y: 0.0, z: 0.0 });
+    /// let micrometres = package.measure_tool(&part, results.numbers_mut(), 0);
+    /// assert_eq!(micrometres, Err(Refusal::BadFloat));
     /// # Ok::<(), Refusal>(())
     /// ```
     #[inline]
@@ -179,9 +205,15 @@ impl Package {
         results: &mut [i32],
         place: usize,
     ) -> Result<Decision, Refusal> {
-        let arguments = measurement.numbers();
-        let raw = boundary::measure_tool(&mut self.area, &arguments, results, place);
-        Decision::of(raw)
+        let (area, arguments) = (&mut self.area, measurement.numbers());
+        Decision::of(match measurement.probing.reported() {
+            0 => boundary::measure_tool(area, &arguments, results, place),
+            reported => {
+                let reports = measurement.probing.reports();
+                let reports = (&reports[..], reported);
+                boundary::measure_tool_readings(area, &arguments, reports, results, place)
+            }
+        })
     }
 
     /// Measures with zero offset and moves the offset on the axes measured, all
@@ -198,7 +230,7 @@ impl Package {
     ///     axis: 3,
     ///     direction: NEGATIVE,
     ///     setpoint: 1000,
-    ///     raws: [1040, 0, 0, 0],
+    ///     raws: [1040, 0, 0, 0].map(Reading::Whole),
     ///     ..Probing::default()
     /// };
     /// let mut results = Results::default();
@@ -215,9 +247,15 @@ impl Package {
         results: &mut [i32],
         place: usize,
     ) -> Result<Decision, Refusal> {
-        let arguments = measurement.numbers();
-        let raw = boundary::measure_zero(&mut self.area, &arguments, results, place);
-        Decision::of(raw)
+        let (area, arguments) = (&mut self.area, measurement.numbers());
+        Decision::of(match measurement.probing.reported() {
+            0 => boundary::measure_zero(area, &arguments, results, place),
+            reported => {
+                let reports = measurement.probing.reports();
+                let reports = (&reports[..], reported);
+                boundary::measure_zero_readings(area, &arguments, reports, results, place)
+            }
+        })
     }
 
     /// Replaces all EV and MV by those of a block of [`BLOCK`] bytes: EV 1..20,

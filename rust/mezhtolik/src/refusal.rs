@@ -34,17 +34,21 @@ pub enum Refusal {
     EmptyJob = 11,
     /// 12: the job has too many bytes or lines, or its last line is unended.
     WrongJob = 12,
+    /// 13: a float of a report that is used is no number, infinite or beyond
+    /// ±1000 mm. It stands behind 2 and before 3.
+    BadFloat = 13,
     /// 100: the area has not 137 numbers. Only [`boundary`](crate::boundary)
     /// has it.
     WrongArea = 100,
-    /// 101: a measurement's arguments are not as many as they should be. Only
+    /// 101: a measurement's arguments, or the floats of its reports, are not as
+    /// many as they should be. Only
     /// [`boundary`](crate::boundary) has it.
     WrongArguments = 101,
 }
 
 impl Refusal {
     /// Every refusal in the order of its number.
-    pub const ALL: [Refusal; 14] = [
+    pub const ALL: [Refusal; 15] = [
         Refusal::NoRoom,
         Refusal::NoSuchNumber,
         Refusal::OutsideRange,
@@ -57,6 +61,7 @@ impl Refusal {
         Refusal::MalformedLine,
         Refusal::EmptyJob,
         Refusal::WrongJob,
+        Refusal::BadFloat,
         Refusal::WrongArea,
         Refusal::WrongArguments,
     ];
@@ -69,7 +74,7 @@ impl Refusal {
     /// The refusal of a number; 0 and numbers that there are not have none.
     pub const fn from_number(number: u32) -> Option<Refusal> {
         match number {
-            1..=12 => Some(Refusal::ALL[number as usize - 1]),
+            1..=13 => Some(Refusal::ALL[number as usize - 1]),
             100 => Some(Refusal::WrongArea),
             101 => Some(Refusal::WrongArguments),
             _ => None,
@@ -91,8 +96,10 @@ impl Refusal {
             Refusal::MalformedLine => "the line is malformed or has over 200 bytes: check its letter, the number of its fields and their form",
             Refusal::EmptyJob => "the job is empty: give it at least one line",
             Refusal::WrongJob => "the job has over 65,536 bytes, over 1,000 lines or no line feed at its end: split it, or end its last line",
+            Refusal::BadFloat => "a float that is used is no number, infinite or beyond ±1000 mm: check that the box has touched \
+                and reports millimetres, and of a G line that the digits stand highest first",
             Refusal::WrongArea => "the area has not 137 numbers: lend the whole area",
-            Refusal::WrongArguments => "a measurement has not its 21 or 13 arguments: hand all of them over",
+            Refusal::WrongArguments => "a measurement has not its 21 or 13 arguments, or its reports not 12 floats: hand all of them over",
         }
     }
 }
@@ -129,7 +136,10 @@ mod tests {
     #[test]
     fn numbers_lead_to_their_refusals() {
         let numbers = Refusal::ALL.map(Refusal::number);
-        assert_eq!(numbers, [1, 2, 3, 4, 5, 6, 7, 8, 9, 10, 11, 12, 100, 101]);
+        assert_eq!(
+            numbers,
+            [1, 2, 3, 4, 5, 6, 7, 8, 9, 10, 11, 12, 13, 100, 101]
+        );
         for refusal in Refusal::ALL {
             assert_eq!(Refusal::from_number(refusal.number()), Some(refusal));
             assert_eq!(outcome(refusal.number()), Err(refusal));
@@ -137,7 +147,7 @@ mod tests {
             assert!(!wrong.is_empty() && !to_do.is_empty(), "{refusal}");
         }
         assert_eq!(Refusal::from_number(0), None);
-        assert_eq!(Refusal::from_number(13), None);
+        assert_eq!(Refusal::from_number(14), None);
         assert_eq!(outcome(0), Ok(()));
     }
 }

@@ -1,7 +1,7 @@
 //! The calls on lent areas of a wrong length: 100, and everything is left.
 
 use mezhtolik::boundary::*;
-use mezhtolik::{AREA, TOOL_ARGUMENTS, ZERO_ARGUMENTS};
+use mezhtolik::{AREA, REPORTS, TOOL_ARGUMENTS, ZERO_ARGUMENTS};
 
 const LENGTHS: [usize; 5] = [0, 1, AREA - 1, AREA + 1, 2 * AREA];
 
@@ -27,6 +27,7 @@ fn settings_and_blocks() {
     refused(|area| set_wear(area, 1, 1, 1));
     refused(|area| set_offset(area, 1, [1, 1, 1]));
     refused(|area| calibrate(area, [1, 1, 0, 0, 0, 0, 0]));
+    refused(|area| calibrate_report(area, [1, 1, 0, 0, 0, 0, 0], [f32::NAN; 3]));
     refused(|area| load(area, &[1; 80]));
     refused(|area| {
         let mut buffer = [7; 80];
@@ -75,6 +76,93 @@ fn measurements() {
                 (refusal, [77; AREA], [77; 42])
             );
         }
+    }
+}
+
+/// What both measurements with readings have in common.
+type MeasureReadings = fn(&mut [i32], &[i64], (&[f32], u32), &mut [i32], usize) -> RawDecision;
+
+const BOTH_READINGS: [(MeasureReadings, usize); 2] = [
+    (measure_tool_readings, TOOL_ARGUMENTS),
+    (measure_zero_readings, ZERO_ARGUMENTS),
+];
+
+#[test]
+fn measurements_with_readings() {
+    for (measure, arguments) in BOTH_READINGS {
+        for (count, floats) in [
+            (arguments - 1, REPORTS),
+            (arguments + 1, REPORTS),
+            (0, 0),
+            (arguments, REPORTS - 1),
+            (arguments, REPORTS + 1),
+            (arguments, 0),
+            (arguments, REPORTS),
+        ] {
+            let (numbers, floats) = (vec![1; count], vec![f32::NAN; floats]);
+            let lent = |area: &mut [i32], results: &mut [i32]| {
+                measure(area, &numbers, (&floats, 15), results, 0)
+            };
+            refused(|area| {
+                let mut results = [77; 42];
+                let decision = lent(area, &mut results);
+                assert_eq!(results, [77; 42]);
+                decision.refusal
+            });
+            let (mut area, mut results) = ([77; AREA], [77; 42]);
+            let decision = lent(&mut area, &mut results[..41]);
+            // what is lent of the right number comes to the next test, the room
+            let whole = count == arguments && floats.len() == REPORTS;
+            let refusal = if whole { 1 } else { 101 };
+            let expected = RawDecision {
+                refusal,
+                ..RawDecision::default()
+            };
+            assert_eq!((decision, area, results), (expected, [77; AREA], [77; 42]));
+        }
+    }
+}
+
+/// The places that a call with readings does not look at: the floats of a whole
+/// raw, the number of a reported one, the bits behind the fourth.
+#[test]
+fn what_is_not_used_is_not_looked_at() {
+    // a groove from 100 to 200 u, its low raw whole, its high one reported
+    let tool = [
+        3,
+        1,
+        1,
+        0,
+        100,
+        0,
+        0,
+        600,
+        i64::MIN,
+        7,
+        7,
+        3,
+        0,
+        0,
+        1,
+        0,
+        100,
+        0,
+        0,
+        200,
+        300,
+    ];
+    let zero = [103, 1, 1, 0, 100, 0, 0, 600, i64::MIN, 7, 7, 2, 1000];
+    let mut floats = [f32::NAN; REPORTS];
+    floats[3] = -0.03;
+    for (bits, both) in [(0b1110, [1, 6]), (0xffff_fff2, [1, 6]), (0xf, [13, 13])] {
+        let (mut area, mut results) = ([0; AREA], [0; 42]);
+        for (direction, raw) in [(0, -500), (1, 500)] {
+            assert_eq!(calibrate(&mut area, [1, 1, direction, 0, raw, 0, 1000]), 0);
+        }
+        let by_tool = measure_tool_readings(&mut area, &tool, (&floats, bits), &mut results, 0);
+        let by_zero = measure_zero_readings(&mut area, &zero, (&floats, bits), &mut results, 0);
+        let told = [by_tool, by_zero].map(|decision| decision.refusal.max(decision.branch));
+        assert_eq!(told, both, "{bits:b}");
     }
 }
 

@@ -11,7 +11,7 @@ fn calibrated() -> Package {
                 probe: 1,
                 axis,
                 direction,
-                raw,
+                raw: Reading::Whole(raw),
                 tsa: 1000,
                 ..Calibration::default()
             };
@@ -106,7 +106,7 @@ fn results_go_to_their_place() {
             axis: 3,
             direction: NEGATIVE,
             setpoint: 1000,
-            raws: [1540, 0, 0, 0],
+            raws: [1540, 0, 0, 0].map(Reading::from),
             ..Probing::default()
         },
         tool: 32,
@@ -135,6 +135,149 @@ fn results_go_to_their_place() {
     let before = array;
     let refused = package.measure_tool(&part, &mut array, 7);
     assert_eq!((refused, array), (Err(Refusal::NoRoom), before));
+}
+
+/// A hole from 100 to 200 u on axis 1 and from 400 to 500 u on axis 2, with
+/// triggers of 500, as whole positions.
+fn hole() -> Probing {
+    Probing {
+        kind: kind::HOLE,
+        probe: 1,
+        setpoint: 100,
+        raws: [600, -300, 900, 0].map(Reading::Whole),
+        ..Probing::default()
+    }
+}
+
+/// The same hole by the reports of a box; no axis picks what is no number.
+fn reported_hole() -> Probing {
+    let none = f32::NAN;
+    let report = |x, y| Reading::Report(Report { x, y, z: none });
+    Probing {
+        raws: [
+            report(0.06, none),
+            report(-0.03, none),
+            report(none, 0.09),
+            report(none, -0.0),
+        ],
+        ..hole()
+    }
+}
+
+fn tool(probing: Probing) -> ToolMeasurement {
+    ToolMeasurement {
+        probing,
+        tool: 3,
+        k: 1,
+        limits: Limits {
+            tmv: 100,
+            tdif: 200,
+            tsa: 300,
+            ..Limits::default()
+        },
+        ..ToolMeasurement::default()
+    }
+}
+
+fn zero(mut probing: Probing) -> ZeroMeasurement {
+    probing.kind += kind::ZERO_OFFSET;
+    ZeroMeasurement {
+        probing,
+        offset: 2,
+        tsa: 1000,
+    }
+}
+
+/// Both measurements of a hole: what they answer and write, and the package.
+fn measured(probing: Probing) -> ([Result<Decision, Refusal>; 2], [Results; 2], Package) {
+    let (mut package, mut results) = (calibrated(), [Results::default(); 2]);
+    let [by_tool, by_zero] = &mut results;
+    let answers = [
+        package.measure_tool(&tool(probing), by_tool.numbers_mut(), 0),
+        package.measure_zero(&zero(probing), by_zero.numbers_mut(), 0),
+    ];
+    (answers, results, package)
+}
+
+#[test]
+fn each_raw_is_by_itself_whole_or_a_report() {
+    let expected = measured(hole());
+    assert_eq!(expected.1[0].centre(), [300, 900]);
+    assert_eq!(expected.2.offset(2), Some([300, 900, 0]));
+    for reported in 0..16 {
+        let mut probing = reported_hole();
+        for raw in (0..4).filter(|raw| reported >> raw & 1 == 0) {
+            probing.raws[raw] = hole().raws[raw];
+        }
+        assert_eq!(probing.reported(), reported);
+        assert_eq!(measured(probing), expected, "{reported:04b}");
+    }
+}
+
+#[test]
+fn a_used_float_that_is_bad_is_refused() {
+    for bad in [f32::NAN, f32::INFINITY, -f32::INFINITY, 1000.0001] {
+        for (raw, axis) in [(0, 0), (1, 0), (2, 1), (3, 1)] {
+            let mut floats = [0.0; 3];
+            floats[axis] = bad;
+            let [x, y, z] = floats;
+            let mut probing = hole();
+            probing.raws[raw] = Report { x, y, z }.into();
+            let (answers, results, package) = measured(probing);
+            assert_eq!(answers, [Err(Refusal::BadFloat); 2], "raw {raw}: {bad}");
+            assert_eq!(results.map(|results| results.refusal()), [13, 13]);
+            assert_eq!(package, calibrated());
+        }
+    }
+}
+
+/// 13 stands behind 2 and before 3, in a measurement and in a calibration.
+#[test]
+fn bad_floats_in_their_order() {
+    let nowhere = Reading::from(Report {
+        x: f32::NAN,
+        ..Report::default()
+    });
+    let refused = |probe, setpoint| {
+        let mut probing = hole();
+        (probing.probe, probing.setpoint, probing.raws[0]) = (probe, setpoint, nowhere);
+        let calibration = Calibration {
+            probe,
+            axis: 1,
+            setpoint,
+            raw: nowhere,
+            ..Calibration::default()
+        };
+        let (answers, _, mut package) = measured(probing);
+        (answers[0], answers[1], package.calibrate(&calibration))
+    };
+    for (probe, setpoint, refusal) in [
+        (4, 100, Refusal::NoSuchNumber),
+        (1, 10_000_001, Refusal::BadFloat),
+    ] {
+        let expected = (Err(refusal), Err(refusal), Err(refusal));
+        assert_eq!(refused(probe, setpoint), expected);
+    }
+}
+
+#[test]
+fn a_calibration_picks_the_float_of_its_axis() {
+    for axis in 1..=3 {
+        let mut floats = [f32::NAN; 3];
+        floats[axis as usize - 1] = -0.03;
+        let [x, y, z] = floats;
+        let mut package = Package::fresh();
+        let calibration = Calibration {
+            probe: 3,
+            axis,
+            direction: POSITIVE,
+            raw: Report { x, y, z }.into(),
+            tsa: 1000,
+            ..Calibration::default()
+        };
+        assert_eq!(package.calibrate(&calibration), Ok(()));
+        assert_eq!(package.trigger(3, axis as usize, POSITIVE), Some(300));
+    }
 }
 
 #[test]

@@ -5,6 +5,7 @@ use crate::package::Package;
 use crate::ranges::{
     require, require_within, store_index, within, AXES, LIMIT, POSITION, PROBES, TRIGGER,
 };
+use crate::reading::Reading;
 use crate::refusal::Refusal;
 
 /// The arguments of a calibration, in the order of a C line.
@@ -14,7 +15,7 @@ pub struct Calibration {
     pub axis: i64,
     pub direction: i64,
     pub setpoint: i64,
-    pub raw: i64,
+    pub raw: Reading,
     pub tzl: i64,
     pub tsa: i64,
 }
@@ -43,13 +44,14 @@ impl Package {
         let probe = store_index(call.probe, PROBES)?;
         let axis = store_index(call.axis, AXES)?;
         let direction = Direction::from_number(call.direction)?;
+        let raw = self.position(&call.raw, axis)?;
         require_within(call.setpoint, POSITION)?;
-        require_within(call.raw, POSITION)?;
+        require_within(raw, POSITION)?;
         let ordered = 0 <= call.tzl && call.tzl <= call.tsa && call.tsa <= LIMIT;
         require(ordered, Refusal::Range)?;
 
         let place = trigger_index(axis, direction);
-        let trigger = direction.sign() * (call.setpoint - call.raw);
+        let trigger = direction.sign() * (call.setpoint - raw);
         let change = (trigger - self.records.trigger(probe, place)).abs();
         require(change <= call.tsa, Refusal::SafeArea)?;
         // "9 t beyond ±100,000 though it would not be stored"

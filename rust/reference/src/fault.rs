@@ -1,7 +1,7 @@
 //! Faults that tests plant in the reference.
 
-/// "What setters have met". A package made by
-/// [`Package::with_fault`](crate::Package::with_fault) has one of them; the
+/// "What setters have met", and ways to do request 2026-01 wrong. A package made
+/// by [`Package::with_fault`](crate::Package::with_fault) has one of them; the
 /// places that look at it are marked `FAULT`.
 #[derive(Clone, Copy, Debug, PartialEq, Eq)]
 pub enum Fault {
@@ -18,16 +18,35 @@ pub enum Fault {
     ShaftSign,
     /// "Moving one axis of a hole when the other is refused."
     HalfHole,
+    /// A float times 10,000 in 32 bits, and the product rounded to a unit.
+    FloatMultiplied,
+    /// Y of a report for its X, where axis 1 is measured.
+    OrdinateForAbscissa,
+    /// 13 after 3 in a measurement.
+    FloatAfterRange,
+    /// 13 for a float that is not used.
+    UnusedFloat,
 }
 
 impl Fault {
-    /// Every fault in the paper's order.
-    pub const ALL: [Fault; 6] = [
+    /// Every fault, those of document 01 in its order, then those of request
+    /// 2026-01.
+    pub const ALL: [Fault; 10] = [
         Fault::UnsignedBytes,
         Fault::DeviationAgainstTzl,
         Fault::MeanClearedInBranch3,
         Fault::OversizeWithheld,
         Fault::ShaftSign,
         Fault::HalfHole,
+        Fault::FloatMultiplied,
+        Fault::OrdinateForAbscissa,
+        Fault::FloatAfterRange,
+        Fault::UnusedFloat,
     ];
+
+    /// Whether the lines of a job can show it: none loads a block, and the
+    /// readings of a G line have the same float for each axis.
+    pub fn shows_in_jobs(self) -> bool {
+        !matches!(self, Fault::UnsignedBytes | Fault::OrdinateForAbscissa)
+    }
 }

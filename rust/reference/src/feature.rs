@@ -1,7 +1,10 @@
 //! "Measured sizes": what is touched, and what comes out of the touches.
 
 use crate::direction::{trigger_index, Direction};
+use crate::fault::Fault;
+use crate::package::Package;
 use crate::ranges::{require, require_within, store_index, AXES, POSITION, PROBES};
+use crate::reading::Reading;
 use crate::records::Records;
 use crate::refusal::Refusal;
 
@@ -16,7 +19,7 @@ pub struct Feature {
     /// "c1, c2 are set centres in u on axes 1, 2."
     pub centre: [i64; 2],
     /// "Raws stand low, high, in the order above."
-    pub raws: [i64; 4],
+    pub raws: [Reading; 4],
 }
 
 /// "0 plane, 1 hole, 2 shaft, 3 groove, 4 web".
@@ -53,20 +56,22 @@ impl Kind {
     }
 }
 
-/// One touch of the probe; the axis counts from 0.
+/// One touch of the probe, its raw a reading or a position; the axis counts
+/// from 0.
 #[derive(Clone, Copy, Debug, PartialEq, Eq)]
-pub(crate) struct Touch {
+pub(crate) struct Touch<Raw = i64> {
     pub axis: usize,
     pub direction: Direction,
-    pub raw: i64,
+    pub raw: Raw,
 }
 
-/// What a measurement touches, after its numbers passed.
+/// What a measurement touches: with readings after its numbers passed, with
+/// positions after its floats passed too.
 #[derive(Clone, Debug, PartialEq, Eq)]
-pub(crate) struct Plan {
+pub(crate) struct Plan<Raw = i64> {
     pub kind: Kind,
     pub probe: usize,
-    pub touches: Vec<Touch>,
+    pub touches: Vec<Touch<Raw>>,
 }
 
 /// What the touches tell.
@@ -81,7 +86,7 @@ pub(crate) struct Sizes {
 impl Feature {
     /// The part of refusal 2 that both calls share: kind, probe and, where the
     /// kind uses them, axis and direction.
-    pub(crate) fn plan(&self, first_kind: i64) -> Result<Plan, Refusal> {
+    pub(crate) fn plan(&self, first_kind: i64) -> Result<Plan<Reading>, Refusal> {
         let kind = Kind::from_number(self.kind, first_kind)?;
         let probe = store_index(self.probe, PROBES)?;
         let touches = match kind {
@@ -102,7 +107,7 @@ impl Feature {
 
     /// "Inside kinds (hole, groove) touch low in the negative direction and high
     /// in the positive; outside kinds the reverse."
-    fn pair(&self, kind: Kind, axis: usize, first_raw: usize) -> [Touch; 2] {
+    fn pair(&self, kind: Kind, axis: usize, first_raw: usize) -> [Touch<Reading>; 2] {
         let low = if kind.is_inside() {
             Direction::Negative
         } else {
@@ -132,6 +137,52 @@ impl Feature {
     /// Centre - 2·set centre, h, on a measured axis.
     pub(crate) fn centre_shift(&self, sizes: &Sizes, axis: usize) -> Option<i64> {
         sizes.centres[axis].map(|centre| centre - 2 * self.centre[axis])
+    }
+}
+
+impl Plan<Reading> {
+    /// The plan with a position for each reading and its axis.
+    fn with_positions(
+        &self,
+        position: impl Fn(&Reading, usize) -> Result<i64, Refusal>,
+    ) -> Result<Plan, Refusal> {
+        let touches = self.touches.iter().map(|touch| {
+            Ok(Touch {
+                axis: touch.axis,
+                direction: touch.direction,
+                raw: position(&touch.raw, touch.axis)?,
+            })
+        });
+        Ok(Plan {
+            kind: self.kind,
+            probe: self.probe,
+            touches: touches.collect::<Result<_, _>>()?,
+        })
+    }
+}
+
+impl Package {
+    /// The plan with the positions of its readings, in this order: 13 "for a used
+    /// float ... after 2 and before 3", then 3 as `in_range` tests it.
+    pub(crate) fn positions(
+        &self,
+        feature: &Feature,
+        plan: &Plan<Reading>,
+        in_range: impl Fn(&Plan) -> Result<(), Refusal>,
+    ) -> Result<Plan, Refusal> {
+        if self.has(Fault::FloatAfterRange) {
+            // FAULT: 3 comes first; a float that is none is taken as 0
+            let lenient = |raw: &Reading, axis| Ok(raw.position(axis).unwrap_or(0));
+            in_range(&plan.with_positions(lenient)?)?;
+        }
+        if self.has(Fault::UnusedFloat) {
+            // FAULT: all four raws are looked at
+            let mut raws = feature.raws.iter();
+            raws.try_for_each(|raw| self.position(raw, 0).map(drop))?;
+        }
+        let plan = plan.with_positions(|raw, axis| self.position(raw, axis))?;
+        in_range(&plan)?;
+        Ok(plan)
     }
 }
 

@@ -29,11 +29,13 @@ pub enum Refusal {
     EmptyJob = 11,
     /// 12: the job is "over 65,536 bytes, over 1,000 lines or last line unended".
     JobForm = 12,
+    /// 13: "a used float that is not a number, infinite or beyond ±1000 mm".
+    Float = 13,
 }
 
 impl Refusal {
     /// Every refusal in the order of its number.
-    pub const ALL: [Refusal; 12] = [
+    pub const ALL: [Refusal; 13] = [
         Refusal::Room,
         Refusal::Number,
         Refusal::Range,
@@ -46,6 +48,7 @@ impl Refusal {
         Refusal::Malformed,
         Refusal::EmptyJob,
         Refusal::JobForm,
+        Refusal::Float,
     ];
 
     /// The paper's number of this refusal.
@@ -70,6 +73,7 @@ impl Refusal {
             Refusal::JobForm => {
                 "job over 65,536 bytes, over 1,000 lines, or last line without line feed"
             }
+            Refusal::Float => "float not a number, infinite or beyond ±1000 mm",
         }
     }
 }

@@ -7,16 +7,16 @@ use crate::refusal::Refusal;
 pub const RESULT: usize = 42;
 const OVI: usize = 32;
 
-/// The result of one measurement.
+/// The 42 numbers of one measurement.
 #[derive(Clone, Copy, Debug, PartialEq, Eq)]
-pub(crate) struct Report([i32; RESULT]);
+pub(crate) struct Numbers([i32; RESULT]);
 
-impl Report {
+impl Numbers {
     /// "42 zeros save OVI[9] = the number."
     pub(crate) fn refused(refusal: Refusal) -> Self {
-        let mut report = Report([0; RESULT]);
-        report.ovi(9, i64::from(refusal.number()));
-        report
+        let mut numbers = Numbers([0; RESULT]);
+        numbers.ovi(9, i64::from(refusal.number()));
+        numbers
     }
 
     /// The places that both calls fill alike: setpoint, size, centres, TSA,
@@ -28,22 +28,22 @@ impl Report {
         empirical: i64,
         tsa: i64,
     ) -> Self {
-        let mut report = Report([0; RESULT]);
-        report.ovr(0, feature.setpoint);
-        report.ovr(4, sizes.measured - empirical);
-        report.ovr(16, sizes.measured - empirical - feature.setpoint);
-        report.ovr(28, tsa);
+        let mut numbers = Numbers([0; RESULT]);
+        numbers.ovr(0, feature.setpoint);
+        numbers.ovr(4, sizes.measured - empirical);
+        numbers.ovr(16, sizes.measured - empirical - feature.setpoint);
+        numbers.ovr(28, tsa);
         // "centres stand only on measured axes"
         for axis in plan.pair_axes() {
-            report.ovr(1 + axis, feature.centre[axis]);
-            report.ovr(5 + axis, sizes.centres[axis].unwrap_or(0));
-            report.ovr(17 + axis, feature.centre_shift(sizes, axis).unwrap_or(0));
+            numbers.ovr(1 + axis, feature.centre[axis]);
+            numbers.ovr(5 + axis, sizes.centres[axis].unwrap_or(0));
+            numbers.ovr(17 + axis, feature.centre_shift(sizes, axis).unwrap_or(0));
         }
         // "2 is 977, plane 978; 3 kind"
-        report.ovi(2, if plan.kind == Kind::Plane { 978 } else { 977 });
-        report.ovi(3, feature.kind);
-        report.ovi(5, feature.probe);
-        report
+        numbers.ovi(2, if plan.kind == Kind::Plane { 978 } else { 977 });
+        numbers.ovi(3, feature.kind);
+        numbers.ovi(5, feature.probe);
+        numbers
     }
 
     /// Writes `_OVR[place]`.

@@ -7,8 +7,9 @@ use crate::package::Package;
 use crate::ranges::{
     optional_index, require, store_index, within, AXES, MEANS, TOOLS, WEAR, WEIGHT,
 };
+use crate::reading::Reading;
 use crate::refusal::Refusal;
-use crate::result_array::{result_part, Report};
+use crate::result_array::{result_part, Numbers};
 use crate::tolerance::{Branch, Decision, Tolerance, Verdict};
 
 /// The arguments of a measurement with tool offset, in the order of a T line.
@@ -39,7 +40,7 @@ pub(crate) struct WearTerm {
 
 /// The numbers of a measurement that passed refusal 2.
 struct Used {
-    plan: Plan,
+    plan: Plan<Reading>,
     tool: usize,
     ev: Option<usize>,
     mv: Option<usize>,
@@ -51,7 +52,7 @@ struct Effect {
     decision: Decision,
     term: WearTerm,
     wear: i64,
-    report: Report,
+    numbers: Numbers,
 }
 
 /// "inside kinds add c h to radius wear, outside kinds subtract c h. Plane adds
@@ -79,22 +80,28 @@ impl ToolMeasurement {
         })
     }
 
-    fn report(&self, plan: &Plan, sizes: &Sizes, empirical: i64, decision: &Decision) -> Report {
+    /// "3 used positions and set centres, setpoint, and k even without a mean".
+    fn check_ranges(&self, plan: &Plan) -> Result<(), Refusal> {
+        self.feature.check_ranges(plan)?;
+        require((1..=WEIGHT).contains(&self.k), Refusal::Range)
+    }
+
+    fn numbers(&self, plan: &Plan, sizes: &Sizes, empirical: i64, decision: &Decision) -> Numbers {
         let limits = &self.tolerance;
-        let mut report = Report::of_feature(&self.feature, plan, sizes, empirical, limits.tsa);
-        report.ovr(8, self.feature.setpoint + limits.tul);
-        report.ovr(12, self.feature.setpoint + limits.tll);
-        report.ovr(20, decision.correction);
-        report.ovr(27, limits.tzl);
-        report.ovr(29, limits.tdif);
-        report.ovr(30, empirical);
-        report.ovr(31, decision.mean_left);
-        report.ovi(0, self.tool);
-        report.ovi(4, self.k);
-        report.ovi(6, self.mv);
-        report.ovi(7, self.ev);
-        report.ovi(8, self.tool);
-        report
+        let mut numbers = Numbers::of_feature(&self.feature, plan, sizes, empirical, limits.tsa);
+        numbers.ovr(8, self.feature.setpoint + limits.tul);
+        numbers.ovr(12, self.feature.setpoint + limits.tll);
+        numbers.ovr(20, decision.correction);
+        numbers.ovr(27, limits.tzl);
+        numbers.ovr(29, limits.tdif);
+        numbers.ovr(30, empirical);
+        numbers.ovr(31, decision.mean_left);
+        numbers.ovi(0, self.tool);
+        numbers.ovi(4, self.k);
+        numbers.ovi(6, self.mv);
+        numbers.ovi(7, self.ev);
+        numbers.ovi(8, self.tool);
+        numbers
     }
 }
 
@@ -110,23 +117,22 @@ impl Package {
         let part = result_part(array, place)?;
         match self.tool_effect(call) {
             Err(refusal) => {
-                Report::refused(refusal).write(part);
+                Numbers::refused(refusal).write(part);
                 Err(refusal)
             }
             Ok(effect) => {
-                effect.report.write(part);
+                effect.numbers.write(part);
                 Ok(self.correct_tool(&effect))
             }
         }
     }
 
-    /// Refusals 2 to 9 in their order, and what the call does if none applies.
+    /// Refusals 2, 13 and 3 to 9 in their order, and what the call does if none applies.
     fn tool_effect(&self, call: &ToolMeasurement) -> Result<Effect, Refusal> {
         let used = call.used()?;
-        call.feature.check_ranges(&used.plan)?;
-        require((1..=WEIGHT).contains(&call.k), Refusal::Range)?;
+        let plan = self.positions(&call.feature, &used.plan, |plan| call.check_ranges(plan))?;
         call.tolerance.check()?;
-        let sizes = used.plan.sizes(&self.records)?;
+        let sizes = plan.sizes(&self.records)?;
 
         // "D = measured - EV - setpoint (EV number 0 means EV is 0)"
         let empirical = used.ev.map_or(0, |index| i64::from(self.records.ev[index]));
@@ -137,8 +143,8 @@ impl Package {
             .tolerance
             .decide(deviation, mean, call.k, self.planted());
 
-        let mut term = wear_term(&call.feature, used.plan.kind);
-        if self.has(Fault::ShaftSign) && used.plan.kind == Kind::Shaft {
+        let mut term = wear_term(&call.feature, plan.kind);
+        if self.has(Fault::ShaftSign) && plan.kind == Kind::Shaft {
             term.factor = 1; // FAULT: the hole's sign
         }
         let stored = self.records.wears[used.tool];
@@ -150,7 +156,7 @@ impl Package {
         let wear = i64::from(old) + term.factor * decision.correction;
         require(within(wear, WEAR), Refusal::Store)?;
         Ok(Effect {
-            report: call.report(&used.plan, &sizes, empirical, &decision),
+            numbers: call.numbers(&plan, &sizes, empirical, &decision),
             used,
             decision,
             term,

@@ -5,7 +5,7 @@ use crate::feature::{Feature, Kind, Plan, Sizes};
 use crate::package::Package;
 use crate::ranges::{require, store_index, within, AXES, LIMIT, OFFSET, OFFSETS};
 use crate::refusal::Refusal;
-use crate::result_array::{result_part, Report};
+use crate::result_array::{result_part, Numbers};
 use crate::tolerance::{Branch, Verdict};
 use crate::tool_offset::Measured;
 
@@ -46,11 +46,11 @@ impl ZeroMeasurement {
 
     /// "Zero kinds report setpoint and size too, with 0 in OVR 8, 12, 20, 27,
     /// 29, 30, 31 and OVI 4, 6, 7".
-    fn report(&self, plan: &Plan, sizes: &Sizes) -> Report {
-        let mut report = Report::of_feature(&self.feature, plan, sizes, 0, self.tsa);
+    fn numbers(&self, plan: &Plan, sizes: &Sizes) -> Numbers {
+        let mut numbers = Numbers::of_feature(&self.feature, plan, sizes, 0, self.tsa);
         // "0 offset number, 8 zero"
-        report.ovi(0, self.offset);
-        report
+        numbers.ovi(0, self.offset);
+        numbers
     }
 }
 
@@ -65,11 +65,11 @@ impl Package {
         let part = result_part(array, place)?;
         match self.move_offset(call) {
             Err(refusal) => {
-                Report::refused(refusal).write(part);
+                Numbers::refused(refusal).write(part);
                 Err(refusal)
             }
-            Ok(report) => {
-                report.write(part);
+            Ok(numbers) => {
+                numbers.write(part);
                 Ok(Measured {
                     branch: Branch::ZeroOffset,
                     verdict: Verdict::Within,
@@ -78,11 +78,12 @@ impl Package {
         }
     }
 
-    /// Refusals 2 to 9 in their order; "hole and shaft do both axes or neither".
-    fn move_offset(&mut self, call: &ZeroMeasurement) -> Result<Report, Refusal> {
+    /// Refusals 2, 13 and 3 to 9 in their order; "hole and shaft do both axes or neither".
+    fn move_offset(&mut self, call: &ZeroMeasurement) -> Result<Numbers, Refusal> {
         let plan = call.feature.plan(FIRST_KIND)?;
         let offset = store_index(call.offset, OFFSETS)?;
-        call.feature.check_ranges(&plan)?;
+        let in_range = |plan: &Plan| call.feature.check_ranges(plan);
+        let plan = self.positions(&call.feature, &plan, in_range)?;
         // "Only TSA (0..1,000,000) applies"
         require((0..=LIMIT).contains(&call.tsa), Refusal::Limits)?;
         let sizes = plan.sizes(&self.records)?;
@@ -98,7 +99,7 @@ impl Package {
             }
         }
         self.records.offsets[offset] = moved?;
-        Ok(call.report(&plan, &sizes))
+        Ok(call.numbers(&plan, &sizes))
     }
 
     /// The offset after all shifts. Each shift in h is held "against 2·TSA"; a

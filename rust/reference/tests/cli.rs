@@ -52,7 +52,7 @@ fn run_prints_answers_or_one_line_of_error() {
 #[test]
 fn every_letter_prints_the_stored_job() {
     let ran = reference(&["every-letter"]);
-    let stored = include_bytes!("../../../jobs/every-letter-and-refusal.txt");
+    let stored = include_bytes!("../../../jobs/every-letter-and-refusal-floats.txt");
     assert!(ran.stdout == stored);
 }
 

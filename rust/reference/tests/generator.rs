@@ -55,10 +55,10 @@ fn each_sort_of_call_reaches_its_refusals_and_no_other() {
         ("E", &[0, 2, 3]),
         ("W", &[0, 2, 3]),
         ("O", &[0, 2, 3]),
-        ("C", &[0, 2, 3, 7, 9]),
+        ("C", &[0, 2, 3, 7, 9, 13]),
         ("status", &[0, 2]),
-        ("T", &[0, 1, 2, 3, 4, 5, 6, 7, 8, 9]),
-        ("Z", &[0, 1, 2, 3, 4, 5, 6, 7, 9]),
+        ("T", &[0, 1, 2, 3, 4, 5, 6, 7, 8, 9, 13]),
+        ("Z", &[0, 1, 2, 3, 4, 5, 6, 7, 9, 13]),
         ("load", &[0, 1]),
         ("save", &[0, 1]),
         ("job", &[0, 1, 11, 12]),
@@ -85,7 +85,7 @@ fn calls_reach_every_refusal_branch_and_verdict_often() {
         let found = found.iter().filter(|(key, _)| matches(key));
         found.map(|(_, count)| count).sum()
     };
-    for refusal in 1..=9 {
+    for refusal in (1..=9).chain([13]) {
         let often = count(&|key| key.1 == refusal);
         assert!(often >= calls / 400, "refusal {refusal}: {often}");
     }
@@ -130,7 +130,7 @@ fn jobs_reach_every_refusal_of_jobs_and_lines() {
     let refusals: BTreeSet<u8> = lines.keys().map(|key| key.0).collect();
     assert_eq!(
         refusals,
-        BTreeSet::from_iter([0, 2, 3, 4, 5, 6, 7, 8, 9, 10])
+        BTreeSet::from_iter([0, 2, 3, 4, 5, 6, 7, 8, 9, 10, 13])
     );
     for branch in 1..=5 {
         for verdict in 0..=2 {
@@ -171,8 +171,8 @@ fn the_same_seed_gives_the_same() {
 #[test]
 fn stored_job_has_every_letter_and_refusal() {
     let text = every_letter();
-    let stored = include_bytes!("../../../jobs/every-letter-and-refusal.txt");
-    let output = include_bytes!("../../../jobs/every-letter-and-refusal.out");
+    let stored = include_bytes!("../../../jobs/every-letter-and-refusal-floats.txt");
+    let output = include_bytes!("../../../jobs/every-letter-and-refusal-floats.out");
     assert!(text == stored, "the stored job is not the one generated");
     assert!(fresh_job(&text).as_deref() == Ok(&output[..]), "its output");
     assert_eq!(text.iter().filter(|&&byte| byte == b'\n').count(), 1000);
@@ -181,20 +181,34 @@ fn stored_job_has_every_letter_and_refusal() {
     let refusals: BTreeSet<u8> = keys.iter().map(|key| key.0).collect();
     assert_eq!(
         refusals,
-        BTreeSet::from_iter([0, 2, 3, 4, 5, 6, 7, 8, 9, 10])
+        BTreeSet::from_iter([0, 2, 3, 4, 5, 6, 7, 8, 9, 10, 13])
     );
     assert!(!refusals.contains(&Refusal::Room.number()));
     let branches: BTreeSet<u8> = keys.iter().map(|key| key.1).collect();
     assert_eq!(branches, BTreeSet::from_iter(0..=6));
     let verdicts: BTreeSet<u8> = keys.iter().map(|key| key.2).collect();
     assert_eq!(verdicts, BTreeSet::from_iter(0..=2));
-    for letter in [b'E', b'W', b'O', b'C', b'T', b'Z'] {
+    for letter in [b'E', b'W', b'O', b'C', b'T', b'Z', b'G'] {
         let mut lines = text.split(|&byte| byte == b'\n').zip(&keys);
         assert!(lines.any(|(line, key)| line.first() == Some(&letter) && key.0 == 0));
     }
 }
 
-/// Jobs alone show every fault but that of the memory block, which no line loads.
+/// The job that was stored before request 2026-01: it has every letter and
+/// refusal of document 01, and its answers stay to the byte.
+#[test]
+fn the_stored_job_of_before_answers_as_before() {
+    let text = include_bytes!("../../../jobs/every-letter-and-refusal.txt");
+    let output = include_bytes!("../../../jobs/every-letter-and-refusal.out");
+    assert!(fresh_job(text).as_deref() == Ok(&output[..]));
+    let refusals: BTreeSet<u8> = line_keys(output).iter().map(|key| key.0).collect();
+    assert_eq!(
+        refusals,
+        BTreeSet::from_iter([0, 2, 3, 4, 5, 6, 7, 8, 9, 10])
+    );
+}
+
+/// Jobs alone show every fault that their lines can show.
 #[test]
 fn jobs_show_the_planted_faults() {
     for fault in Fault::ALL {
@@ -205,6 +219,6 @@ fn jobs_show_the_planted_faults() {
             result.map(|length| output[..length].to_vec()) != fresh_job(&text)
         };
         let seen = (0..400).filter(differs).count();
-        assert_eq!(seen > 0, fault != Fault::UnsignedBytes, "{fault:?}: {seen}");
+        assert_eq!(seen > 0, fault.shows_in_jobs(), "{fault:?}: {seen}");
     }
 }

@@ -1,5 +1,5 @@
 -- By the tests in the order of the rules: the area's length, the number of arguments, the room.
-use mathlib.Core.Path.{_≡_, sym, _∙_}
+use mathlib.Core.Path.{_≡_, refl, sym, _∙_}
 use mathlib.Core.Bool.{cond}
 use Prim.Native.Nat.{_+_}
 use lib.Dec.{leb}
@@ -18,15 +18,15 @@ returns c = rw (ne-eqb (c .before .args .area) areaLength (c .if1 .taken))
 returns-2 : tie.Need-returns-2
 returns-2 c =
     let s = c .before .before .args in
-    rw (eq-eqb (s .area) areaLength (c .before .if1 .left), ne-eqb (s .numbers) (s .count) (c .if2 .taken))
+    rw (eq-eqb (s .area) areaLength (c .before .if1 .left), failed {r = s .many} refl (c .if2 .taken))
 
 -- ---- where only the room is left to decide
 room-decides : (c : tie.After-has-room) → let s = c .before .before .before .args in
-    first (lentRules (s .count) (s .area) (s .numbers) (s .array) (s .place)) ≡ cond (leb (s .place + 42) (s .array)) 0 1
+    first (lentRules (s .area) (s .many) (s .array) (s .place)) ≡ cond (leb (s .place + 42) (s .array)) 0 1
 room-decides c =
     let g = c .before in
     let s = g .before .before .args in
-    rw (eq-eqb (s .area) areaLength (g .before .if1 .left), eq-eqb (s .numbers) (s .count) (g .if2 .left))
+    rw (eq-eqb (s .area) areaLength (g .before .if1 .left), passed {r = s .many} refl (g .if2 .left))
 
 returns-3 : tie.Need-returns-3
 returns-3 c = let r = c .before in sym (room-decides r ∙ rw (failed (r .has-room .ensures) (c .if3 .taken)))

@@ -17,7 +17,7 @@ use Rattle.package.specs.declared.found.ToolRecords.{ToolRecords}
 use Rattle.rules.specs.Stores.{valueRange, means, tools}
 use Rattle.rules.specs.Refusals.{first}
 use Rattle.rules.specs.Measuring.{lent, recordRules}
-use Rattle.rules.specs.Tool.{toolKindOf, onLength, withWearOn, toolArguments, toolTests, foundTests, toolFound, toolRules, wearsLeft}
+use Rattle.rules.specs.Tool.{wholeTool, toolKindOf, onLength, withWearOn, toolArguments, toolTests, foundTests, toolFound, toolRules, wearsLeft}
 use Rattle.rules.specs.Passed.{ToolArgumentsPassed, tool-arguments-passed, TestsPassed, tests-passed}
 use Rattle.rules.specs.Results.{toolFilled, toolEvaluation}
 use Rattle.rules.specs.Changes.{write}
@@ -45,7 +45,7 @@ module _ (r : ToolRecords) (a : ToolMeasurement) {f : Found} (found : f ≡ tool
   changes-are kind e = rw (e, kind, found)
 
 abbrev asked : tie.Start → Asked
-asked s = record { measurement = tool (s .args .a); area = s .args .area .now; results = s .args .results .now; place = s .args .place }
+asked s = record { measurement = tool (wholeTool (s .args .a)); area = s .args .area .now; results = s .args .results .now; place = s .args .place }
 
 returns : tie.Need-returns
 returns c =

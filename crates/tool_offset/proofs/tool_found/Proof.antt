@@ -52,7 +52,8 @@ returns c =
     let a = s .args .a in
     let deviation = d .ensures .0 ∙ ap (difference (z .sizes-of .result .held)) (ev v .value) in
     let decision = dc .decision-of .ensures .0
-    ∙ ap₂ (λ m n. decided (a .limits) (named a) m n (weight a)) (read-as w16 (s .args .r .mean) (search (t2 .struct-told2 .given))) (read (d .result) (d .ok)) in
+    ∙ ap₂ (λ m n. decided (a .limits) (named a) m n (weight a)) (read-as w16 (s .args .r .mean) (search (t2 .struct-told2 .given)))
+    (read (d .result) (d .ok)) in
     let wear = c .wear-left .ensures
     ∙ ap (λ n. wearOn (onLength (s .args .k) (a .probing .axis)) (s .args .r .wear) +ℤ factor (s .args .k) (a .probing .direction) *ℤ n)
     (read (dc .decision-of .result .correction) (search (c .before .struct-told3 .given))) in

@@ -10,7 +10,7 @@ use Rattle.package.specs.declared.found.ZeroRecords.{ZeroRecords}
 use Rattle.rules.specs.Stores.{offsets}
 use Rattle.rules.specs.Refusals.{first}
 use Rattle.rules.specs.Measuring.{recordRules}
-use Rattle.rules.specs.Zero.{zeroKindOf, zeroArguments, zeroSizes, offsetLeft, zeroTests, zeroRules}
+use Rattle.rules.specs.Zero.{wholeZero, zeroKindOf, zeroArguments, zeroSizes, offsetLeft, zeroTests, zeroRules}
 use Rattle.rules.specs.Passed.{ZeroArgumentsPassed, zero-arguments-passed, tests-passed}
 use Rattle.rules.specs.Results.{zeroFilled, zeroEvaluation}
 use Rattle.rules.specs.Changes.{write}
@@ -25,7 +25,7 @@ use Rattle.zero_measuring.proofs.evaluate_zero.Statement.{statement}
 use Rattle.zero_measuring.proofs.evaluate_zero.Tie as tie
 
 abbrev asked : tie.Start → Asked
-asked s = record { measurement = zero (s .args .a); area = s .args .area .now; results = s .args .results .now; place = s .args .place }
+asked s = record { measurement = zero (wholeZero (s .args .a)); area = s .args .area .now; results = s .args .results .now; place = s .args .place }
 
 returns : tie.Need-returns
 returns c =

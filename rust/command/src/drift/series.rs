@@ -242,17 +242,42 @@ impl Bench {
 mod tests {
     use super::*;
 
-    const JOB: &[u8] = include_bytes!("../../../../jobs/every-letter-and-refusal.txt");
+    const JOBS: [&[u8]; 2] = [
+        include_bytes!("../../../../jobs/every-letter-and-refusal.txt"),
+        include_bytes!("../../../../jobs/every-letter-and-refusal-floats.txt"),
+    ];
 
     #[test]
     fn a_job_line_by_line_leaves_the_records_that_it_leaves_as_a_whole() {
-        let mut bench = Bench::fresh();
-        for line in JOB.split_inclusive(|&byte| byte == b'\n') {
-            bench.run(1, line);
+        for job in JOBS {
+            let mut bench = Bench::fresh();
+            for line in job.split_inclusive(|&byte| byte == b'\n') {
+                bench.run(1, line);
+            }
+            let mut package = Package::fresh();
+            package.run_job(job, &mut vec![0; job_room(job)]).unwrap();
+            assert_eq!(bench.package, package);
         }
-        let mut package = Package::fresh();
-        package.run_job(JOB, &mut vec![0; job_room(JOB)]).unwrap();
-        assert_eq!(bench.package, package);
+    }
+
+    /// A plane at 0.0101 mm, once as a T line and once as a G line.
+    #[test]
+    fn a_part_that_a_float_box_read_is_a_part() {
+        let part = |letter: char, raws: &str| {
+            format!("{letter},0,1,3,1,0,0,0,{raws},4,0,2,5,20,100,150,-150,300,1000\n")
+        };
+        let lines = [
+            part('T', "100,0,0,0"),
+            part('G', "3c257a78,00000000,ffffffff,00000000"),
+            part('G', "7fc00000,00000000,00000000,00000000"),
+        ];
+        let job = format!("C,1,3,1,0,0,0,1000\n{}", lines.concat());
+        let series = of_job(job.as_bytes()).unwrap().remove(&2).unwrap();
+        let deviations = series.parts.iter().map(|part| part.answer.deviation);
+        assert_eq!(deviations.collect::<Vec<_>>(), [100, 101]);
+        assert_eq!(series.outside(), 0);
+        let refusals = series.refused.iter().map(|line| line.refusal);
+        assert_eq!(refusals.collect::<Vec<_>>(), [13]);
     }
 
     #[test]

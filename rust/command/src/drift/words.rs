@@ -4,8 +4,8 @@ use super::length::millimetres;
 use super::series::{Part, Series};
 use crate::words::kind;
 
-pub const NO_PARTS: &str = "no measurement with tool offset (T line) was done, so there is nothing to draw; ./mezhtolik run says why";
-pub const NO_MEANS: &str = "no part names a mean value (field mv of its T line); --mean 0 draws the parts that are measured without one";
+pub const NO_PARTS: &str = "no measurement with tool offset (T or G line) was done, so there is nothing to draw; ./mezhtolik run says why";
+pub const NO_MEANS: &str = "no part names a mean value (field mv of its T or G line); --mean 0 draws the parts that are measured without one";
 
 /// A number of things.
 pub fn count(number: usize, thing: &str) -> String {

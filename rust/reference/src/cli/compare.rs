@@ -1,5 +1,6 @@
 //! A job program compared with the reference.
 
+use std::collections::BTreeMap;
 use std::fs;
 use std::path::{Path, PathBuf};
 use std::process::{Command, ExitCode};
@@ -29,7 +30,7 @@ struct Tally {
     jobs: u64,
     refused: u64,
     lines: u64,
-    by_refusal: [u64; 11],
+    by_refusal: BTreeMap<u8, u64>,
 }
 
 impl Subject<'_> {
@@ -74,15 +75,14 @@ impl Tally {
         for line in String::from_utf8_lossy(&output).lines() {
             self.lines += 1;
             let refusal = line.split(',').nth(1).and_then(|field| field.parse().ok());
-            let refusal: usize = refusal.expect("an answer has a refusal");
-            self.by_refusal[refusal] += 1;
+            let refusal = refusal.expect("an answer has a refusal");
+            *self.by_refusal.entry(refusal).or_default() += 1;
         }
     }
 
     fn summary(&self) -> String {
-        let by_refusal = self.by_refusal.iter().enumerate();
+        let by_refusal = self.by_refusal.iter();
         let counts: Vec<String> = by_refusal
-            .filter(|(_, &count)| count > 0)
             .map(|(refusal, count)| format!("{refusal}: {count}"))
             .collect();
         format!(

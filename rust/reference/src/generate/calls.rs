@@ -2,14 +2,16 @@
 
 use super::jobs;
 use super::measurements::{tool_measurement, zero_measurement};
+use super::readings::{as_floats, edge_bits, mix, next_bits};
 use super::rng::Rng;
 use super::values::{boundary, store_number, wild};
 use crate::calibration::Calibration;
 use crate::calls::Call;
 use crate::direction::{trigger_index, Direction};
-use crate::line::{call_of, fields_of};
+use crate::line::{call_of, fields_of, is_float};
 use crate::package::{Package, BLOCK};
 use crate::ranges::{MEANS, OFFSETS, TOOLS, TRIGGER};
+use crate::reading::Reading;
 use crate::result_array::RESULT;
 
 /// A source of random calls. It follows the records with a package of its own,
@@ -43,8 +45,9 @@ impl CallSource {
             9..=10 => self.job(),
             _ => {
                 let (letter, mut fields) = self.sensible_line();
-                self.disturb(&mut fields, wild);
-                let call = call_of(letter, &fields).expect("fields of a call");
+                self.disturb(letter, &mut fields, wild);
+                let mut call = call_of(letter, &fields).expect("fields of a call");
+                mix(&mut self.rng, &mut call);
                 self.with_array(call)
             }
         };
@@ -55,7 +58,8 @@ impl CallSource {
     /// The next line of a job as letter and fields.
     pub fn next_line(&mut self) -> (char, Vec<i64>) {
         let (letter, mut fields) = self.sensible_line();
-        self.disturb(&mut fields, |rng| wild(rng).clamp(-99_999_999, 99_999_999));
+        let worse = |rng: &mut Rng| wild(rng).clamp(-99_999_999, 99_999_999);
+        self.disturb(letter, &mut fields, worse);
         self.follow(letter, &fields);
         (letter, fields)
     }
@@ -83,11 +87,7 @@ impl CallSource {
             1 => self.wear(),
             2 => self.offset(),
             3 => self.calibration(missing),
-            4 => Call::MeasureTool {
-                measurement: tool_measurement(&mut self.rng, &self.package),
-                array: Vec::new(),
-                place: 0,
-            },
+            4 => self.tool_call(),
             _ => Call::MeasureZero {
                 measurement: zero_measurement(&mut self.rng, &self.package),
                 array: Vec::new(),
@@ -97,12 +97,27 @@ impl CallSource {
         fields_of(&call).expect("a line holds this call")
     }
 
+    /// The measurement of a T line or of a G line.
+    fn tool_call(&mut self) -> Call {
+        let mut measurement = tool_measurement(&mut self.rng, &self.package);
+        if self.rng.chance(35) {
+            as_floats(&mut self.rng, &mut measurement.feature);
+        }
+        Call::MeasureTool {
+            measurement,
+            array: Vec::new(),
+            place: 0,
+        }
+    }
+
     /// Sometimes replaces one to three fields by boundaries or worse.
-    fn disturb(&mut self, fields: &mut [i64], worse: impl Fn(&mut Rng) -> i64) {
+    fn disturb(&mut self, letter: char, fields: &mut [i64], worse: impl Fn(&mut Rng) -> i64) {
         let rng = &mut self.rng;
         for _ in 0..[0, 1, 2, 3][rng.weighted(&[80, 15, 3, 2])] {
             let place = rng.below(fields.len());
             fields[place] = match rng.below(6) {
+                0..=2 if is_float(letter, place) => next_bits(rng, fields[place] as u32).into(),
+                _ if is_float(letter, place) => edge_bits(rng).into(),
                 0 => worse(rng),
                 1 => fields[place].saturating_neg(),
                 2 => fields[place].saturating_add(rng.pick(&[-1, 1])),
@@ -181,7 +196,7 @@ impl CallSource {
             axis,
             direction,
             setpoint,
-            raw: setpoint - way.sign() * trigger,
+            raw: Reading::Whole(setpoint - way.sign() * trigger),
             tzl,
             tsa: if rng.chance(10) { 1_000_000 } else { tsa },
         })

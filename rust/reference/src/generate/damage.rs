@@ -1,10 +1,11 @@
 //! Damage to the lines of a job.
 
+use super::readings::edge_bits;
 use super::rng::Rng;
-use crate::line::write_line;
+use crate::line::{is_float, write_line, RAWS};
 
 /// Ways to change one field.
-const FIELDS: [&str; 16] = [
+const FIELDS: [&str; 18] = [
     "",
     "-",
     "-0",
@@ -21,9 +22,11 @@ const FIELDS: [&str; 16] = [
     "1e3",
     "0x1f",
     "--1",
+    "447a0000",
+    "447A0000",
 ];
 
-/// Letters that open no line of this paper.
+/// Letters that open no line, and G, which opens none of another letter's fields.
 const LETTERS: [&str; 14] = [
     "G", "S", "D", "K", "R", "X", "t", "c", "TT", "", " T", "T ", "1", "\u{e9}",
 ];
@@ -59,6 +62,27 @@ fn damage_parts(rng: &mut Rng, line: &[u8]) -> Vec<u8> {
     join(&parts)
 }
 
+/// Bytes next to the digits of a float, and some that stand in other numbers.
+const OTHER_DIGITS: [&str; 9] = ["/", ":", "@", "A", "`", "g", "-", " ", "x"];
+
+/// Changes the digits of one raw of a G line: capitals, seven, nine, a sign,
+/// other bytes among them, a number.
+fn damage_digits(rng: &mut Rng, line: &[u8]) -> Vec<u8> {
+    let mut parts = split(line);
+    let raw = &mut parts[1 + RAWS.start + rng.below(RAWS.len())];
+    *raw = match rng.below(8) {
+        0 => raw.to_uppercase(),
+        1 => format!("{}F", &raw[1..]),
+        2 => raw[1..].to_owned(),
+        3 => format!("{raw}0"),
+        4 => format!("0{raw}"),
+        5 => format!("{}{}", rng.pick(&["-", "+"]), &raw[1..]),
+        6 => format!("{}{}", &raw[..7], rng.pick(&OTHER_DIGITS)),
+        _ => rng.between(-99_999_999, 99_999_999).to_string(),
+    };
+    join(&parts)
+}
+
 /// Changes single bytes of a line.
 fn damage_bytes(rng: &mut Rng, line: &[u8]) -> Vec<u8> {
     let mut line = line.to_vec();
@@ -76,27 +100,37 @@ fn damage_bytes(rng: &mut Rng, line: &[u8]) -> Vec<u8> {
 
 /// A line of exactly this many bytes: well formed if it can be, else padded.
 pub fn line_of_length(rng: &mut Rng, length: usize) -> Vec<u8> {
-    let well_formed = (43..=211).contains(&length) && rng.chance(70);
-    if !well_formed {
-        let mut line = b"E,1,5".to_vec();
-        line.resize(length, rng.pick(b"0 ,"));
-        return line;
+    if (71..=207).contains(&length) && rng.chance(35) {
+        return measurement_of_length(rng, 'G', length);
     }
-    // 21 fields of one to nine bytes; what is over goes to random fields
-    let mut sizes = [1; 21];
-    for _ in 43..length {
-        let open: Vec<usize> = (0..21).filter(|&field| sizes[field] < 9).collect();
+    if (43..=211).contains(&length) && rng.chance(70) {
+        return measurement_of_length(rng, 'T', length);
+    }
+    let mut line = b"E,1,5".to_vec();
+    line.resize(length, rng.pick(b"0 ,"));
+    line
+}
+
+/// A T or G line of exactly this many bytes: 21 fields of one to nine bytes, the
+/// floats of eight; what is over goes to random fields.
+fn measurement_of_length(rng: &mut Rng, letter: char, length: usize) -> Vec<u8> {
+    let mut sizes: [u32; 21] = std::array::from_fn(|place| match is_float(letter, place) {
+        true => 8,
+        false => 1,
+    });
+    let numbers = (0..21).filter(|&place| !is_float(letter, place));
+    let numbers: Vec<usize> = numbers.collect();
+    while 22 + sizes.iter().sum::<u32>() < length as u32 {
+        let open = numbers.iter().copied().filter(|&place| sizes[place] < 9);
+        let open: Vec<usize> = open.collect();
         sizes[rng.pick(&open)] += 1;
     }
-    let fields = sizes.map(|size| {
-        let digits = 10_i64.pow(size.min(8) - 1) * rng.between(1, 9);
-        if size == 9 {
-            -digits
-        } else {
-            digits
-        }
+    let fields: [i64; 21] = std::array::from_fn(|place| match sizes[place] {
+        _ if is_float(letter, place) => edge_bits(rng).into(),
+        9 => -10_i64.pow(7) * rng.between(1, 9),
+        size => 10_i64.pow(size - 1) * rng.between(1, 9),
     });
-    write_line('T', &fields).into_bytes()
+    write_line(letter, &fields).into_bytes()
 }
 
 /// The line with one damage.
@@ -106,6 +140,7 @@ pub fn damage(rng: &mut Rng, line: &[u8]) -> Vec<u8> {
             let length = rng.pick(&[199, 200, 201, 202, 203, 211]);
             line_of_length(rng, length)
         }
+        1..=6 if line.starts_with(b"G,") => damage_digits(rng, line),
         1..=4 => damage_bytes(rng, line),
         _ => damage_parts(rng, line),
     }

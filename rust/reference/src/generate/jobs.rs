@@ -73,7 +73,7 @@ fn random_bytes(rng: &mut Rng) -> Vec<u8> {
     let narrow = rng.chance(60);
     let mut text: Vec<u8> = (0..length)
         .map(|_| match narrow {
-            true => rng.pick(b"EWOCTZ,,,,-0123456789\n\n"),
+            true => rng.pick(b"EWOCTZG,,,,-0123456789abcdef\n\n"),
             false => rng.draw() as u8,
         })
         .collect();

@@ -6,6 +6,7 @@ use crate::direction::{trigger_index, Direction};
 use crate::feature::{Feature, Kind};
 use crate::package::Package;
 use crate::ranges::{LIMIT, MEANS, MEAN_LIMIT, OFFSETS, TOOLS};
+use crate::reading::Reading;
 use crate::tolerance::Tolerance;
 use crate::tool_offset::ToolMeasurement;
 use crate::zero_offset::{ZeroMeasurement, FIRST_KIND};
@@ -68,7 +69,7 @@ fn draft(rng: &mut Rng, kind: Kind) -> Feature {
         0 => rng.near(&[-99_999_998, 99_999_998, 10_000_000]),
         _ => 0,
     };
-    let raws = [unused(), unused(), unused(), unused()];
+    let raws = [unused(), unused(), unused(), unused()].map(Reading::Whole);
     Feature {
         kind: kind as i64,
         probe: rng.pick(&[1, 1, 1, 1, 1, 1, 1, 1, 2, 2, 3]),
@@ -118,16 +119,16 @@ fn place(package: &Package, kind: Kind, feature: &mut Feature, size: i64, spans:
         Kind::Plane => {
             let direction = Direction::from_number(feature.direction);
             let direction = direction.unwrap_or(Direction::Positive);
-            feature.raws[0] = raw(package, probe, axis, direction, size);
+            feature.raws[0] = Reading::Whole(raw(package, probe, axis, direction, size));
         }
         Kind::Groove | Kind::Web => {
             let placed = pair_raws(package, probe, inside, axis, spans[axis]);
-            feature.raws[..2].copy_from_slice(&placed);
+            feature.raws[..2].copy_from_slice(&placed.map(Reading::Whole));
         }
         Kind::Hole | Kind::Shaft => {
             for (axis, span) in spans.into_iter().enumerate() {
                 let placed = pair_raws(package, probe, inside, axis, span);
-                feature.raws[2 * axis..2 * axis + 2].copy_from_slice(&placed);
+                feature.raws[2 * axis..2 * axis + 2].copy_from_slice(&placed.map(Reading::Whole));
             }
         }
     }

@@ -5,6 +5,7 @@ mod damage;
 mod every_letter;
 mod jobs;
 mod measurements;
+mod readings;
 mod rng;
 mod values;
 

@@ -1,0 +1,5 @@
+pub mod Joined
+pub mod JoinedLaws
+pub mod TLine
+pub mod TLineLaws
+pub mod GLines

@@ -1,0 +1,1 @@
+// Definitions and theorems about the lines of letter G; no code.
