@@ -38,7 +38,7 @@ extern "C" {
 
 /*
  * Where each record stands in the area. All numbers count from 1, as in the calls: probe 1..3, ev and mv 1..20, tool 1..32, offset 1..4, axis 1..3
- * (abscissa, ordinate, applicate), place 1..6. The place of a probe's trigger is twice the axis, less one for the negative direction.
+ * (abscissa, ordinate, applicate), place 1..6. The places of a probe's triggers: axis 1 negative 1, positive 2; axis 2: 3, 4; axis 3: 5, 6.
  *
  * Each record has a range, in which every call keeps it:
  *   trigger  within +-100000 u
@@ -78,6 +78,7 @@ enum {
     MEZHTOLIK_BEYOND_TDIF = 8,      /* the deviation is larger than TDIF */
     MEZHTOLIK_LEAVES_RANGE = 9,     /* a trigger, wear or offset would leave its range */
     MEZHTOLIK_MALFORMED_LINE = 10,  /* a line of a job is malformed or has over 200 bytes; only in the answer of that line */
+    MEZHTOLIK_EMPTY_JOB = 11,       /* a job of no bytes */
     MEZHTOLIK_WRONG_JOB = 12,       /* a job of over 65536 bytes or over 1000 lines, or whose last line has no line feed */
     MEZHTOLIK_BAD_FLOAT = 13,       /* a float that is used is no number, infinite or beyond +-1000 mm; stands behind 2 and before 3 */
     MEZHTOLIK_WRONG_AREA = 100,     /* the area has not MEZHTOLIK_AREA numbers: every buffer is left */
@@ -132,19 +133,15 @@ mezhtolik_status mezhtolik_probe_status(const int32_t *area, size_t area_length,
 /* Kinds: with tool offset, and 100 more with zero offset. */
 enum {
     MEZHTOLIK_KIND_PLANE = 0,         /* one surface, on axis 1..3 in its direction */
-    MEZHTOLIK_KIND_HOLE = 1,          /* inside, low and high on axes 1 and 2; its diameter is half the sum of both widths, halves of a u away from zero */
+    MEZHTOLIK_KIND_HOLE = 1,          /* inside, low and high on axes 1 and 2; its diameter is the width on axis 2 */
     MEZHTOLIK_KIND_SHAFT = 2,         /* the same outside */
     MEZHTOLIK_KIND_GROOVE = 3,        /* inside, low and high on axis 1 or 2 */
     MEZHTOLIK_KIND_WEB = 4,           /* the same outside */
-    MEZHTOLIK_KIND_POCKET = 5,        /* a rectangle, inside: low and high on axes 1 and 2, each width with a setpoint of its own */
-    MEZHTOLIK_KIND_BOSS = 6,          /* the same outside */
     MEZHTOLIK_KIND_ZERO_PLANE = 100,  /* the offset of its axis grows by the deviation, twice as many h as u */
     MEZHTOLIK_KIND_ZERO_HOLE = 101,   /* the offsets of axes 1 and 2 grow by the shift of the centre */
     MEZHTOLIK_KIND_ZERO_SHAFT = 102,  /* the same outside */
     MEZHTOLIK_KIND_ZERO_GROOVE = 103, /* the offset of its axis grows by the shift of the centre */
-    MEZHTOLIK_KIND_ZERO_WEB = 104,    /* the same outside */
-    MEZHTOLIK_KIND_ZERO_POCKET = 105, /* the offsets of axes 1 and 2 grow by the shift of the centre, as of a hole */
-    MEZHTOLIK_KIND_ZERO_BOSS = 106    /* the same outside */
+    MEZHTOLIK_KIND_ZERO_WEB = 104     /* the same outside */
 };
 
 /* Directions, of a calibration and of a plane. Inside kinds touch low in the negative direction and high in the positive, outside kinds the reverse. */
@@ -153,30 +150,25 @@ enum {
     MEZHTOLIK_NEGATIVE = 1  /* towards smaller ones: surface = raw - trigger */
 };
 
-/*
- * How many arguments a measurement has, and how many numbers it writes to the result array. Where the first argument, the kind, is that of a pocket or boss
- * (5, 6, 105 or 106), the arguments have a further number at their end. The kind alone decides this, in each call, also where it is none of this call's.
- */
+/* How many arguments a measurement has, and how many numbers it writes to the result array. */
 #define MEZHTOLIK_TOOL_ARGUMENTS 21
 #define MEZHTOLIK_ZERO_ARGUMENTS 13
-#define MEZHTOLIK_TOOL_RECTANGLE_ARGUMENTS 22
-#define MEZHTOLIK_ZERO_RECTANGLE_ARGUMENTS 14
 #define MEZHTOLIK_RESULTS 42
 
 /*
- * The places of the arguments. Both measurements have the first eleven; tool offset has 11..20 and zero offset 11, 12 after them, and then comes the further
- * number of a pocket or boss. A kind uses some of them only; the others may be any number.
+ * The places of the arguments. Both measurements have the first eleven; tool offset has 11..20 and zero offset 11, 12 after them. A kind uses some of
+ * them only; the others may be any number.
  */
 enum {
     MEZHTOLIK_ARG_KIND = 0,      /* MEZHTOLIK_KIND_.. */
     MEZHTOLIK_ARG_PROBE = 1,     /* 1..3 */
     MEZHTOLIK_ARG_AXIS = 2,      /* plane 1..3; groove and web 1 or 2 */
     MEZHTOLIK_ARG_DIRECTION = 3, /* plane: MEZHTOLIK_POSITIVE or MEZHTOLIK_NEGATIVE */
-    MEZHTOLIK_ARG_SETPOINT = 4,  /* plane: a position; others: a width, 1..10000000 u, of a pocket or boss that on axis 1 */
+    MEZHTOLIK_ARG_SETPOINT = 4,  /* plane: a position; others: a width, 1..10000000 u */
     MEZHTOLIK_ARG_C1 = 5,        /* set centre on axis 1, within +-10000000 u, of kinds that measure a pair on it */
     MEZHTOLIK_ARG_C2 = 6,        /* the same on axis 2 */
     MEZHTOLIK_ARG_R1 = 7,        /* raws, within +-10000000 u: plane one; groove and web low, high; */
-    MEZHTOLIK_ARG_R2 = 8,        /* hole, shaft, pocket and boss abscissa low, high, ordinate low, high */
+    MEZHTOLIK_ARG_R2 = 8,        /* hole and shaft abscissa low, high, ordinate low, high */
     MEZHTOLIK_ARG_R3 = 9,
     MEZHTOLIK_ARG_R4 = 10,
 
@@ -190,11 +182,9 @@ enum {
     MEZHTOLIK_ARG_TLL = 18,
     MEZHTOLIK_ARG_TDIF = 19,
     MEZHTOLIK_ARG_TSA = 20,
-    MEZHTOLIK_ARG_ORDINATE = 21, /* pocket and boss: the width on axis 2, its setpoint, 1..10000000 u */
 
-    MEZHTOLIK_ARG_OFFSET = 11,       /* zero offset: 1..4 */
-    MEZHTOLIK_ARG_ZERO_TSA = 12,     /* zero offset: TSA, 0..1000000 u */
-    MEZHTOLIK_ARG_ZERO_ORDINATE = 13 /* zero offset: the width on axis 2 of a pocket or boss, its setpoint, 1..10000000 u */
+    MEZHTOLIK_ARG_OFFSET = 11,  /* zero offset: 1..4 */
+    MEZHTOLIK_ARG_ZERO_TSA = 12 /* zero offset: TSA, 0..1000000 u */
 };
 
 /* Branches: what a measurement did with the deviation D. */
@@ -223,15 +213,10 @@ typedef struct mezhtolik_decision {
 } mezhtolik_decision;
 
 /*
- * Measure with tool offset and with zero offset. The arguments are MEZHTOLIK_TOOL_ARGUMENTS or MEZHTOLIK_ZERO_ARGUMENTS numbers, of a pocket or boss
- * MEZHTOLIK_TOOL_RECTANGLE_ARGUMENTS or MEZHTOLIK_ZERO_RECTANGLE_ARGUMENTS. The result goes to the MEZHTOLIK_RESULTS numbers of results that begin at place,
- * counted from 0: OVR[0..31], then OVI[0..9]. Every other number of results stays.
+ * Measure with tool offset and with zero offset. The arguments are MEZHTOLIK_TOOL_ARGUMENTS or MEZHTOLIK_ZERO_ARGUMENTS numbers. The result goes to the
+ * MEZHTOLIK_RESULTS numbers of results that begin at place, counted from 0: OVR[0..31], then OVI[0..9]. Every other number of results stays.
  *
- * A pocket and a boss have two widths, and each width less the empirical value less its setpoint is a difference. The one of greater magnitude is D, that of
- * axis 1 when both are equal, whatever their signs; setpoint, measured width, limits and deviation in results are those of its axis. With zero offset it is
- * reported in the same way, with an empirical value of 0, and the offsets go by the centres.
- *
- * Refusals: 100; 101; 1 fewer than 42 numbers from place on; 2 numbers; 3 positions, set centres, setpoints and k; 4 limits; 5; 6; 7; 8 (tool offset);
+ * Refusals: 100; 101; 1 fewer than 42 numbers from place on; 2 numbers; 3 positions, set centres, setpoint and k; 4 limits; 5; 6; 7; 8 (tool offset);
  * 9. 100, 101 and 1 leave results; the others write 42 zeros save OVI[9], which is the refusal.
  */
 mezhtolik_decision mezhtolik_measure_tool(int32_t *area, size_t area_length, const int64_t *arguments, size_t arguments_length, int32_t *results,
@@ -245,8 +230,8 @@ mezhtolik_decision mezhtolik_measure_zero(int32_t *area, size_t area_length, con
  * number among the arguments is not looked at; where it is clear, the raw is that number, and its three floats are not looked at. Other bits of reported are
  * not looked at. With none set the call is the one above.
  *
- * The measured axis picks the float of a report: of a plane, groove and web x, y, z for axes 1, 2, 3; of a hole, shaft, pocket and boss x for r1 and r2 and y
- * for r3 and r4. It becomes a raw in u as in mezhtolik_calibrate_report. A float that is not picked, and a raw that the kind does not use, may be anything.
+ * The measured axis picks the float of a report: of a plane, groove and web x, y, z for axes 1, 2, 3; of a hole and shaft x for r1 and r2 and y for r3 and
+ * r4. It becomes a raw in u as in mezhtolik_calibrate_report. A float that is not picked, and a raw that the kind does not use, may be anything.
  *
  * Refusals: those above; 101 also where the floats are not MEZHTOLIK_REPORTS; and 13 behind 2 and before 3, where a float that is used is no number, infinite
  * or beyond +-1000 mm. 13 writes the results as the numbers around it do.
@@ -274,7 +259,7 @@ enum {
 
 /*
  * .. and by name. What a kind has not is 0: set centre, centre and shift stand on the axes on which a pair is measured, and what is marked 'tool offset'
- * is 0 with zero offset. Places without a name are always 0. Of a pocket or boss OVR[0], [4], [8], [12] and [16] belong to the axis of D.
+ * is 0 with zero offset. Places without a name are always 0.
  */
 enum {
     MEZHTOLIK_OVR_SETPOINT = 0,     /* the setpoint, u */
@@ -334,10 +319,9 @@ typedef struct mezhtolik_job {
 
 /*
  * Runs a job, a text of one call a line (docs/JOBS.md), and writes one line of answer for each: line number, refusal, branch, verdict, deviation (OVR[16])
- * and correction c. A line that is refused changes nothing, and the next one runs. Bytes of the output behind the answers stay. A job of no bytes has no lines:
- * it runs, also with an output of no bytes, changes nothing and has length 0.
+ * and correction c. A line that is refused changes nothing, and the next one runs. Bytes of the output behind the answers stay.
  *
- * Refusals of the job: 100; 12; 1 the output has less than MEZHTOLIK_LINE_ROOM bytes for each line. A refused job runs no line, and leaves the area
+ * Refusals of the job: 100; 11; 12; 1 the output has less than MEZHTOLIK_LINE_ROOM bytes for each line. A refused job runs no line, and leaves the area
  * and the output.
  */
 mezhtolik_job mezhtolik_run_job(int32_t *area, size_t area_length, const uint8_t *job, size_t job_length, uint8_t *output, size_t output_length);

@@ -239,11 +239,11 @@ static void readings(void)
     tool[MEZHTOLIK_ARG_KIND] = 104;
 }
 
-/* An area of its own, with triggers of 30000 on axes 1 and 2 of probe 1. */
-static int32_t own[MEZHTOLIK_AREA];
-
-static void calibrate_own(void)
+/* A hole has X of its first two reports and Y of the others, each raw by itself whole or a report. */
+static void reported_hole(void)
 {
+    static const int64_t hole[] = {1, 1, 0, 0, 200000, 1000000, 800000, 0, 1070000, 729900, 0, 7, 0, 0, 3, 35, 70, 105, -105, 210, 10000};
+    int32_t own[MEZHTOLIK_AREA];
     int64_t axis;
 
     mezhtolik_fresh(own, MEZHTOLIK_AREA);
@@ -251,82 +251,11 @@ static void calibrate_own(void)
         CHECK(mezhtolik_calibrate(own, MEZHTOLIK_AREA, 1, axis, MEZHTOLIK_POSITIVE, 0, -30000, 0, 40000) == 0);
         CHECK(mezhtolik_calibrate(own, MEZHTOLIK_AREA, 1, axis, MEZHTOLIK_NEGATIVE, 0, 30000, 0, 40000) == 0);
     }
-}
-
-/* A hole has X of its first two reports and Y of the others, each raw by itself whole or a report. Its widths are 200000 and 200100. */
-static void reported_hole(void)
-{
-    static const int64_t hole[] = {1, 1, 0, 0, 200000, 1000000, 800000, 0, 1070000, 729900, 0, 7, 0, 0, 3, 35, 70, 105, -105, 210, 10000};
-
-    calibrate_own();
     reports[MEZHTOLIK_REPORT(1, 1)] = 93.0f;
     reports[MEZHTOLIK_REPORT(4, 2)] = 87.0f;
     CHECK(decided(mezhtolik_measure_tool_readings(own, MEZHTOLIK_AREA, hole, 21, reports, 12, MEZHTOLIK_REPORTED_R1 | MEZHTOLIK_REPORTED_R4, results,
-                                                  LENGTH(results), 3), 0, 2, 0));
-    CHECK(results[3 + MEZHTOLIK_OVR_DEVIATION] == 50 && results[3 + MEZHTOLIK_OVR_CENTRE_1] == 2000000 && results[3 + MEZHTOLIK_OVR_CENTRE_2] == 1599900);
-}
-
-/* From 800000 to 1200010 and from 675000 to 924960, setpoints 400000 and 250000; and from 700000 to 1300010 and from 650000 to 950050, setpoints 600000
- * and 300000. One number more than they have behind them. */
-static int64_t pocket[] = {5, 1, 0, 0, 400000, 1000000, 800000, 830000, 1170010, 705000, 894960, 7, 0, 0, 3, 35, 70, 105, -105, 210, 10000, 250000, 1};
-static int64_t boss[] = {106, 1, 0, 0, 600000, 1000000, 800000, 670000, 1330010, 620000, 980050, 4, 1000, 300000, 1};
-
-static mezhtolik_decision measure_pocket(size_t count)
-{
-    return mezhtolik_measure_tool(own, MEZHTOLIK_AREA, pocket, count, results, LENGTH(results), 3);
-}
-
-static mezhtolik_decision measure_boss(size_t count)
-{
-    return mezhtolik_measure_zero(own, MEZHTOLIK_AREA, boss, count, results, LENGTH(results), 3);
-}
-
-/* How many arguments there are is decided by the kind alone, also where it is that of the other call. */
-static void counted_rectangles(void)
-{
-    static const int64_t kinds[] = {5, 6, 105, 106};
-    size_t i;
-
-    for (i = 0; i < LENGTH(kinds); i++) {
-        pocket[0] = boss[0] = kinds[i];
-        remember();
-        CHECK(decided(measure_pocket(21), 101, 0, 0) && decided(measure_pocket(23), 101, 0, 0));
-        CHECK(decided(measure_boss(13), 101, 0, 0) && decided(measure_boss(15), 101, 0, 0));
-        CHECK(decided(mezhtolik_measure_tool_readings(own, MEZHTOLIK_AREA, pocket, 21, reports, 12, 0, results, LENGTH(results), 3), 101, 0, 0));
-        CHECK(decided(mezhtolik_measure_zero_readings(own, MEZHTOLIK_AREA, boss, 13, reports, 12, 0, results, LENGTH(results), 3), 101, 0, 0));
-        CHECK(results_left());
-        CHECK(decided(kinds[i] < 100 ? measure_boss(14) : measure_pocket(22), 2, 0, 0) && results[3 + MEZHTOLIK_OVI(9)] == 2);
-    }
-    pocket[0] = 4;
-    boss[0] = 104;
-    remember();
-    CHECK(decided(measure_pocket(22), 101, 0, 0) && decided(measure_boss(14), 101, 0, 0) && results_left());
-    pocket[0] = 5;
-    boss[0] = 106;
-}
-
-/* The ordinate's difference is the greater one in both, -40 and 50, and the last argument is its setpoint. */
-static void rectangles(void)
-{
-    calibrate_own();
-    counted_rectangles();
-    CHECK(decided(measure_pocket(22), 0, 2, 0) && own[MEZHTOLIK_RADIUS_WEAR(7)] == -40);
-    CHECK(results[3 + MEZHTOLIK_OVR(0)] == 250000 && results[3 + MEZHTOLIK_OVR(16)] == -40 && results[3 + MEZHTOLIK_OVI(3)] == 5);
-    CHECK(decided(measure_boss(14), 0, 6, 0) && own[MEZHTOLIK_OFFSET(4, 1)] == 10 && own[MEZHTOLIK_OFFSET(4, 2)] == 50);
-    CHECK(results[3 + MEZHTOLIK_OVR(0)] == 300000 && results[3 + MEZHTOLIK_OVR(16)] == 50 && results[3 + MEZHTOLIK_OVI(3)] == 106);
-    pocket[MEZHTOLIK_ARG_ORDINATE] = boss[MEZHTOLIK_ARG_ZERO_ORDINATE] = 0;
-    CHECK(decided(measure_pocket(22), 3, 0, 0) && decided(measure_boss(14), 3, 0, 0) && results[3 + MEZHTOLIK_OVI(9)] == 3);
-
-    /* 249955 and 300055: the abscissa's difference is the greater one; the low raw of the ordinate by the Y of its report */
-    pocket[MEZHTOLIK_ARG_ORDINATE] = 249955;
-    boss[MEZHTOLIK_ARG_ZERO_ORDINATE] = 300055;
-    pocket[MEZHTOLIK_ARG_R3] = boss[MEZHTOLIK_ARG_R3] = INT64_MAX;
-    reports[MEZHTOLIK_REPORT(3, 2)] = 70.5f;
-    CHECK(decided(mezhtolik_measure_tool_readings(own, MEZHTOLIK_AREA, pocket, 22, reports, 12, MEZHTOLIK_REPORTED_R3, results, LENGTH(results), 3), 0, 1, 0));
-    CHECK(results[3 + MEZHTOLIK_OVR(0)] == 400000 && results[3 + MEZHTOLIK_OVR(16)] == 10 && own[MEZHTOLIK_RADIUS_WEAR(7)] == -40);
-    reports[MEZHTOLIK_REPORT(3, 2)] = 62.0f;
-    CHECK(decided(mezhtolik_measure_zero_readings(own, MEZHTOLIK_AREA, boss, 14, reports, 12, MEZHTOLIK_REPORTED_R3, results, LENGTH(results), 3), 0, 6, 0));
-    CHECK(results[3 + MEZHTOLIK_OVR(0)] == 600000 && results[3 + MEZHTOLIK_OVR(16)] == 10 && own[MEZHTOLIK_OFFSET(4, 2)] == 100);
+                                                  LENGTH(results), 3), 0, 5, 0));
+    CHECK(results[3 + MEZHTOLIK_OVR_DEVIATION] == 100 && results[3 + MEZHTOLIK_OVR_CENTRE_1] == 2000000 && results[3 + MEZHTOLIK_OVR_CENTRE_2] == 1599900);
 }
 
 static void blocks(void)
@@ -436,7 +365,7 @@ static void job_on_any_content(void)
     CHECK(area_left());
 }
 
-/* A calibration and a malformed line; refused jobs and one of no bytes leave everything. */
+/* A calibration and a malformed line. */
 static void jobs(void)
 {
     static const uint8_t job[] = "C,3,1,0,0,-500,0,1000\nE,01,2\n";
@@ -449,9 +378,7 @@ static void jobs(void)
     j = mezhtolik_run_job(area, MEZHTOLIK_AREA - 1, job, sizeof job - 1, output, sizeof output);
     CHECK(j.refusal == MEZHTOLIK_WRONG_AREA && j.length == 0);
     j = mezhtolik_run_job(area, MEZHTOLIK_AREA, job, 0, output, sizeof output);
-    CHECK(j.refusal == MEZHTOLIK_DONE && j.length == 0);
-    j = mezhtolik_run_job(area, MEZHTOLIK_AREA, job, 0, output, 0);
-    CHECK(j.refusal == MEZHTOLIK_DONE && j.length == 0);
+    CHECK(j.refusal == MEZHTOLIK_EMPTY_JOB && j.length == 0);
     j = mezhtolik_run_job(area, MEZHTOLIK_AREA, job, sizeof job - 2, output, sizeof output);
     CHECK(j.refusal == MEZHTOLIK_WRONG_JOB && j.length == 0);
     j = mezhtolik_run_job(area, MEZHTOLIK_AREA, job, sizeof job - 1, output, 2 * MEZHTOLIK_LINE_ROOM - 1);
@@ -478,7 +405,6 @@ int main(void)
     reported_probes();
     readings();
     reported_hole();
-    rectangles();
     blocks();
     jobs();
     any_content();

@@ -1,6 +1,6 @@
 /*
- * The lines of a job as direct calls. Prints for each line, parted by bars: its answer as a job gives it, the record that it names after it, and the surfaces
- * of the pairs that a T or Z line measures, which it holds against the centres that the package reports.
+ * The lines of a job as direct calls. Prints for each line, parted by bars: its answer as a job gives it, the record that it names after it, and the
+ * surfaces of the pair whose width counts, where it measures one.
  */
 #include <stdio.h>
 #include <stdlib.h>
@@ -16,7 +16,7 @@ static int32_t area[MEZHTOLIK_AREA], results[MEZHTOLIK_RESULTS];
 typedef struct line {
     char letter;
     size_t count;
-    int64_t numbers[MEZHTOLIK_TOOL_RECTANGLE_ARGUMENTS];
+    int64_t numbers[MEZHTOLIK_TOOL_ARGUMENTS];
     float reports[MEZHTOLIK_REPORTS];
     int malformed;
 } line;
@@ -72,7 +72,7 @@ static mezhtolik_decision measure_floats(const line *l)
     return mezhtolik_measure_tool_readings(area, MEZHTOLIK_AREA, l->numbers, l->count, l->reports, MEZHTOLIK_REPORTS, all, results, MEZHTOLIK_RESULTS, 0);
 }
 
-static mezhtolik_decision made(const line *l)
+static mezhtolik_decision call(const line *l)
 {
     const int64_t *n = l->numbers;
 
@@ -89,17 +89,11 @@ static mezhtolik_decision made(const line *l)
     }
 }
 
-/* A line with another number of fields than its kind has is malformed. */
-static mezhtolik_decision call(const line *l)
+static void print_trigger(int64_t probe, int64_t axis, int64_t direction)
 {
-    mezhtolik_decision d = made(l);
+    int64_t place = direction == MEZHTOLIK_POSITIVE ? 2 * axis : 2 * axis - 1;
 
-    return d.refusal == MEZHTOLIK_WRONG_ARGUMENTS ? done(MEZHTOLIK_MALFORMED_LINE) : d;
-}
-
-static int32_t trigger(int64_t probe, int64_t axis, int64_t direction)
-{
-    return area[MEZHTOLIK_TRIGGER(probe, 2 * axis - (direction == MEZHTOLIK_NEGATIVE))];
+    printf("trigger = %d", area[MEZHTOLIK_TRIGGER(probe, place)]);
 }
 
 static void print_wear(int64_t tool)
@@ -128,41 +122,24 @@ static void print_record(const line *l)
     case 'E': printf("EV %d = %d", (int)n[0], area[MEZHTOLIK_EV(n[0])]); break;
     case 'W': print_wear(n[0]); break;
     case 'O': print_offset(n[0]); break;
-    case 'C': printf("trigger = %d", trigger(n[0], n[1], n[2])); break;
+    case 'C': print_trigger(n[0], n[1], n[2]); break;
     case 'T':
     case 'G': print_mean_and_wear(n[MEZHTOLIK_ARG_MV], n[MEZHTOLIK_ARG_TOOL]); break;
     default: print_offset(n[MEZHTOLIK_ARG_OFFSET]); break;
     }
 }
 
-/* The pair on an axis, its raws from the place r on. Inside kinds, which have odd numbers, touch low in the negative direction and high in the positive. */
-static void print_pair(const int64_t *n, int64_t axis, int r)
-{
-    int inside = n[MEZHTOLIK_ARG_KIND] % 2;
-    int32_t negative = trigger(n[MEZHTOLIK_ARG_PROBE], axis, MEZHTOLIK_NEGATIVE), positive = trigger(n[MEZHTOLIK_ARG_PROBE], axis, MEZHTOLIK_POSITIVE);
-    int low = (int)n[r] + (inside ? -negative : positive), high = (int)n[r + 1] + (inside ? positive : -negative);
-
-    if (low + high != results[axis == 1 ? MEZHTOLIK_OVR_CENTRE_1 : MEZHTOLIK_OVR_CENTRE_2]) {
-        exit(3);
-    }
-    printf("%d to %d", low, high);
-}
-
+/* Of the pair on the axis measured, on axis 2 of a hole or shaft: the width is high - low and the centre low + high. */
 static void print_surfaces(const line *l)
 {
-    const int64_t *n = l->numbers;
-    int64_t kind = n[MEZHTOLIK_ARG_KIND] % 100;
+    int64_t kind = l->numbers[MEZHTOLIK_ARG_KIND] % 100;
+    int first = kind >= MEZHTOLIK_KIND_GROOVE && l->numbers[MEZHTOLIK_ARG_AXIS] == 1;
+    int width = results[MEZHTOLIK_OVR_MEASURED] + results[MEZHTOLIK_OVR_EMPIRICAL];
+    int centre = results[first ? MEZHTOLIK_OVR_CENTRE_1 : MEZHTOLIK_OVR_CENTRE_2];
 
-    if ((l->letter != 'T' && l->letter != 'Z') || kind == MEZHTOLIK_KIND_PLANE || results[MEZHTOLIK_OVI_CYCLE] == 0) {
-        return;
+    if (kind != MEZHTOLIK_KIND_PLANE && results[MEZHTOLIK_OVI_CYCLE] != 0) {
+        printf("%d to %d", (centre - width) / 2, (centre + width) / 2);
     }
-    if (kind == MEZHTOLIK_KIND_GROOVE || kind == MEZHTOLIK_KIND_WEB) {
-        print_pair(n, n[MEZHTOLIK_ARG_AXIS], MEZHTOLIK_ARG_R1);
-        return;
-    }
-    print_pair(n, 1, MEZHTOLIK_ARG_R1);
-    printf(", ");
-    print_pair(n, 2, MEZHTOLIK_ARG_R3);
 }
 
 int main(int count, char **arguments)

@@ -54,7 +54,7 @@ class Part:
 def corrected_wear(kind, axis, direction):
     """Which wear a kind corrects, and by how many h for each u."""
     if kind != 0:
-        return RADIUS, 1 if kind in (1, 3, 5) else -1
+        return RADIUS, 1 if kind in (1, 3) else -1
     return LENGTH if axis == 3 else RADIUS, -2 if direction == 1 else 2
 
 

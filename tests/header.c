@@ -28,11 +28,6 @@ static mezhtolik_decision measure_tool(const int64_t *arguments)
     return mezhtolik_measure_tool(area, MEZHTOLIK_AREA, arguments, MEZHTOLIK_TOOL_ARGUMENTS, results, MEZHTOLIK_RESULTS, 0);
 }
 
-static mezhtolik_decision measure_rectangle(const int64_t *arguments)
-{
-    return mezhtolik_measure_tool(area, MEZHTOLIK_AREA, arguments, MEZHTOLIK_TOOL_RECTANGLE_ARGUMENTS, results, MEZHTOLIK_RESULTS, 0);
-}
-
 static mezhtolik_decision measure_zero(const int64_t *arguments)
 {
     return mezhtolik_measure_zero(area, MEZHTOLIK_AREA, arguments, MEZHTOLIK_ZERO_ARGUMENTS, results, MEZHTOLIK_RESULTS, 0);
@@ -56,17 +51,6 @@ static void check_results(const entry *entries, size_t count)
     CHECK(memcmp(results, expected, sizeof expected) == 0);
 }
 
-/* Triggers and EV 5 of jobs/bore-20H7-drift.txt. */
-static void calibrate_for_a_hole(void)
-{
-    mezhtolik_fresh(area, MEZHTOLIK_AREA);
-    calibrate(1, MEZHTOLIK_POSITIVE, 29960);
-    calibrate(1, MEZHTOLIK_NEGATIVE, 29955);
-    calibrate(2, MEZHTOLIK_POSITIVE, 29962);
-    calibrate(2, MEZHTOLIK_NEGATIVE, 29957);
-    mezhtolik_set_empirical(area, MEZHTOLIK_AREA, 5, 12);
-}
-
 /* The hole of the seventh line of jobs/bore-20H7-drift.txt: from 899946 to 1100082 and from 699924 to 900060. */
 static void names_of_a_hole(void)
 {
@@ -80,61 +64,14 @@ static void names_of_a_hole(void)
                                     {MEZHTOLIK_OVI_CYCLE, 977}, {MEZHTOLIK_OVI_KIND, 1}, {MEZHTOLIK_OVI_K, 3}, {MEZHTOLIK_OVI_PROBE, 1},
                                     {MEZHTOLIK_OVI_MV, 4}, {MEZHTOLIK_OVI_EV, 5}, {MEZHTOLIK_OVI_TOOL, 7}};
 
-    calibrate_for_a_hole();
+    mezhtolik_fresh(area, MEZHTOLIK_AREA);
+    calibrate(1, MEZHTOLIK_POSITIVE, 29960);
+    calibrate(1, MEZHTOLIK_NEGATIVE, 29955);
+    calibrate(2, MEZHTOLIK_POSITIVE, 29962);
+    calibrate(2, MEZHTOLIK_NEGATIVE, 29957);
+    mezhtolik_set_empirical(area, MEZHTOLIK_AREA, 5, 12);
     CHECK(measure_tool(hole).branch == MEZHTOLIK_BRANCH_MEAN_KEPT);
     check_results(entries, sizeof entries / sizeof entries[0]);
-}
-
-/* The same raws as a pocket: differences 19 and 23, then 19 and 18. And as a boss with zero offset: from 959861 to 1040167 and from 759843 to 840141, so one
- * width is 6 above its setpoint and the other 8 below. */
-static void names_of_rectangles(void)
-{
-    int64_t pocket[] = {MEZHTOLIK_KIND_POCKET, 1, 0, 0, 200105, 1000000, 800000, 929901, 1070122, 729881, 870098, 7, 5, 4, 3, 35, 70, 105, -105, 210, 10000,
-                        200101};
-    static const int64_t boss[] = {MEZHTOLIK_KIND_ZERO_BOSS, 1, 0, 0, 80300, 1000000, 800000, 929901, 1070122, 729881, 870098, 4, 10000, 80306};
-    static const entry ordinate[] = {{MEZHTOLIK_OVR_SETPOINT, 200101}, {MEZHTOLIK_OVR_SET_CENTRE_1, 1000000}, {MEZHTOLIK_OVR_SET_CENTRE_2, 800000},
-                                     {MEZHTOLIK_OVR_MEASURED, 200124}, {MEZHTOLIK_OVR_CENTRE_1, 2000028}, {MEZHTOLIK_OVR_CENTRE_2, 1599984},
-                                     {MEZHTOLIK_OVR_UPPER_LIMIT, 200206}, {MEZHTOLIK_OVR_LOWER_LIMIT, 199996}, {MEZHTOLIK_OVR_DEVIATION, 23},
-                                     {MEZHTOLIK_OVR_SHIFT_1, 28}, {MEZHTOLIK_OVR_SHIFT_2, -16}, {MEZHTOLIK_OVR_TZL, 35}, {MEZHTOLIK_OVR_TSA, 10000},
-                                     {MEZHTOLIK_OVR_TDIF, 210}, {MEZHTOLIK_OVR_EMPIRICAL, 12}, {MEZHTOLIK_OVR_MEAN, 8}, {MEZHTOLIK_OVI_CORRECTED, 7},
-                                     {MEZHTOLIK_OVI_CYCLE, 977}, {MEZHTOLIK_OVI_KIND, 5}, {MEZHTOLIK_OVI_K, 3}, {MEZHTOLIK_OVI_PROBE, 1},
-                                     {MEZHTOLIK_OVI_MV, 4}, {MEZHTOLIK_OVI_EV, 5}, {MEZHTOLIK_OVI_TOOL, 7}};
-    static const entry zero[] = {{MEZHTOLIK_OVR_SETPOINT, 80306}, {MEZHTOLIK_OVR_SET_CENTRE_1, 1000000}, {MEZHTOLIK_OVR_SET_CENTRE_2, 800000},
-                                 {MEZHTOLIK_OVR_MEASURED, 80298}, {MEZHTOLIK_OVR_CENTRE_1, 2000028}, {MEZHTOLIK_OVR_CENTRE_2, 1599984},
-                                 {MEZHTOLIK_OVR_DEVIATION, -8}, {MEZHTOLIK_OVR_SHIFT_1, 28}, {MEZHTOLIK_OVR_SHIFT_2, -16}, {MEZHTOLIK_OVR_TSA, 10000},
-                                 {MEZHTOLIK_OVI_CORRECTED, 4}, {MEZHTOLIK_OVI_CYCLE, 977}, {MEZHTOLIK_OVI_KIND, 106}, {MEZHTOLIK_OVI_PROBE, 1}};
-
-    calibrate_for_a_hole();
-    CHECK(measure_rectangle(pocket).branch == MEZHTOLIK_BRANCH_MEAN_KEPT);
-    check_results(ordinate, sizeof ordinate / sizeof ordinate[0]);
-    pocket[MEZHTOLIK_ARG_ORDINATE] = 200106;
-    CHECK(measure_rectangle(pocket).branch == MEZHTOLIK_BRANCH_MEAN_KEPT);
-    CHECK(results[MEZHTOLIK_OVR_SETPOINT] == 200105 && results[MEZHTOLIK_OVR_DEVIATION] == 19 && results[MEZHTOLIK_OVR_UPPER_LIMIT] == 200210);
-    pocket[MEZHTOLIK_ARG_ORDINATE] = 0;
-    CHECK(measure_rectangle(pocket).refusal == MEZHTOLIK_OUTSIDE_RANGE && measure_tool(pocket).refusal == MEZHTOLIK_WRONG_ARGUMENTS);
-    CHECK(mezhtolik_measure_zero(area, MEZHTOLIK_AREA, boss, MEZHTOLIK_ZERO_RECTANGLE_ARGUMENTS, results, MEZHTOLIK_RESULTS, 0).branch ==
-          MEZHTOLIK_BRANCH_ZERO_OFFSET);
-    check_results(zero, sizeof zero / sizeof zero[0]);
-    CHECK(boss[MEZHTOLIK_ARG_ZERO_ORDINATE] == 80306 && area[MEZHTOLIK_OFFSET(4, 1)] == 28 && area[MEZHTOLIK_OFFSET(4, 2)] == -16);
-}
-
-/* Each trigger at its place, twice the axis less one for the negative direction, and its bit of the status; no other changes. */
-static void places_by_their_rule(void)
-{
-    int32_t expected[MEZHTOLIK_AREA] = {0};
-    int64_t axis, direction;
-
-    mezhtolik_fresh(area, MEZHTOLIK_AREA);
-    for (axis = 3; axis >= 1; axis--) {
-        for (direction = MEZHTOLIK_POSITIVE; direction <= MEZHTOLIK_NEGATIVE; direction++) {
-            int64_t place = 2 * axis - (direction == MEZHTOLIK_NEGATIVE);
-
-            calibrate(axis, direction, 10 * place);
-            expected[MEZHTOLIK_TRIGGER(1, place)] = 10 * (int32_t)place;
-            expected[MEZHTOLIK_STATUS(1)] |= 1 << (place - 1);
-            CHECK(memcmp(area, expected, sizeof expected) == 0);
-        }
-    }
 }
 
 /* A plane on axis 3, from above, 13 um low; trigger 30000. */
@@ -280,9 +217,7 @@ static void values_beyond_their_range(void)
 
 int main(void)
 {
-    places_by_their_rule();
     names_of_a_hole();
-    names_of_rectangles();
     names_of_planes();
     names_of_reports();
     statuses_beyond_their_range();

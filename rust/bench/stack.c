@@ -23,8 +23,7 @@ static uintptr_t entry;
 #define ENTER() __asm__ volatile("mov %%rsp, %0" : "=m"(entry) : : "memory")
 
 static int32_t area[MEZHTOLIK_AREA], calibrated[MEZHTOLIK_AREA], results[MEZHTOLIK_RESULTS];
-static int64_t arguments[MEZHTOLIK_TOOL_RECTANGLE_ARGUMENTS];
-static size_t further; /* 1 where the kind is a rectangle, which has a number more */
+static int64_t arguments[MEZHTOLIK_TOOL_ARGUMENTS];
 static float reports[MEZHTOLIK_REPORTS];
 static uint8_t bytes[MEZHTOLIK_BLOCK];
 
@@ -74,27 +73,25 @@ static void probe_status(void)
 static void measure_tool(void)
 {
     ENTER();
-    mezhtolik_measure_tool(area, MEZHTOLIK_AREA, arguments, MEZHTOLIK_TOOL_ARGUMENTS + further, results, MEZHTOLIK_RESULTS, 0);
+    mezhtolik_measure_tool(area, MEZHTOLIK_AREA, arguments, MEZHTOLIK_TOOL_ARGUMENTS, results, MEZHTOLIK_RESULTS, 0);
 }
 
 static void measure_zero(void)
 {
     ENTER();
-    mezhtolik_measure_zero(area, MEZHTOLIK_AREA, arguments, MEZHTOLIK_ZERO_ARGUMENTS + further, results, MEZHTOLIK_RESULTS, 0);
+    mezhtolik_measure_zero(area, MEZHTOLIK_AREA, arguments, MEZHTOLIK_ZERO_ARGUMENTS, results, MEZHTOLIK_RESULTS, 0);
 }
 
 static void measure_tool_readings(void)
 {
     ENTER();
-    mezhtolik_measure_tool_readings(area, MEZHTOLIK_AREA, arguments, MEZHTOLIK_TOOL_ARGUMENTS + further, reports, MEZHTOLIK_REPORTS, 15, results,
-                                    MEZHTOLIK_RESULTS, 0);
+    mezhtolik_measure_tool_readings(area, MEZHTOLIK_AREA, arguments, MEZHTOLIK_TOOL_ARGUMENTS, reports, MEZHTOLIK_REPORTS, 15, results, MEZHTOLIK_RESULTS, 0);
 }
 
 static void measure_zero_readings(void)
 {
     ENTER();
-    mezhtolik_measure_zero_readings(area, MEZHTOLIK_AREA, arguments, MEZHTOLIK_ZERO_ARGUMENTS + further, reports, MEZHTOLIK_REPORTS, 15, results,
-                                    MEZHTOLIK_RESULTS, 0);
+    mezhtolik_measure_zero_readings(area, MEZHTOLIK_AREA, arguments, MEZHTOLIK_ZERO_ARGUMENTS, reports, MEZHTOLIK_REPORTS, 15, results, MEZHTOLIK_RESULTS, 0);
 }
 
 static void load(void)
@@ -116,11 +113,8 @@ static const uint8_t job[] = "C,1,1,0,0,-500,0,1000\nE,1,5\nW,1,2,3\nO,1,2,3,4\n
                              "G,1,1,1,0,200000,0,0,c11f374c,411f6c8b,c11f374c,411f6c8b,4,0,2,5,20,100,150,-150,300,1000\n"
                              "G,0,1,3,0,200000,0,0,7fc00000,00000000,00000000,00000000,4,1,2,5,20,100,150,-150,300,1000\n"
                              "Z,100,1,3,1,200000,0,0,200510,0,0,0,1,1000\n"
-                             "Z,102,1,1,0,200000,0,0,-100500,100500,-100500,100500,1,1000\n"
-                             "T,5,1,1,0,200000,0,0,-99510,99640,-99510,99640,4,0,2,5,20,100,150,-150,300,1000,199000\n"
-                             "G,6,1,1,0,200000,0,0,c11f374c,411f6c8b,c11f374c,411f6c8b,4,0,2,5,20,100,150,-150,300,1000,199000\n"
-                             "Z,106,1,1,0,200000,0,0,-100500,100500,-100500,100500,1,1000,199000\n";
-static uint8_t output[40 * 16];
+                             "Z,102,1,1,0,200000,0,0,-100500,100500,-100500,100500,1,1000\n";
+static uint8_t output[40 * 13];
 
 static void run_job(void)
 {
@@ -212,8 +206,6 @@ static size_t by_parts(void (*call)(void), int64_t kind, int zero)
                 if (zero) {
                     arguments[MEZHTOLIK_ARG_ZERO_TSA] = 1000;
                 }
-                arguments[zero ? MEZHTOLIK_ARG_ZERO_ORDINATE : MEZHTOLIK_ARG_ORDINATE] = 200020;
-                further = kind % 100 == MEZHTOLIK_KIND_POCKET || kind % 100 == MEZHTOLIK_KIND_BOSS;
                 report(arguments + MEZHTOLIK_ARG_R1, 4);
                 known = most(known, call);
             }
@@ -227,7 +219,7 @@ static size_t measuring(void (*call)(void), int zero)
     size_t known = 0, found;
     int64_t kind;
 
-    for (kind = 0; kind <= 7; kind++) {
+    for (kind = 0; kind <= 5; kind++) {
         found = by_parts(call, (zero ? 100 : 0) + kind, zero);
         known = found > known ? found : known;
     }

@@ -1,14 +1,22 @@
 // What a measurement comes to. Document 01, 'Tolerance, mean, correction' and 'Zero offset kinds'.
-ghost use Rattle.std.specs.Prelude.{◌≡◌};
+ghost use Rattle.std.specs.Prelude.{◌≡◌, ◌≤◌, nat_abs};
+ghost use Rattle.rules.specs.Sizes.{difference};
 ghost use Rattle.rules.specs.Results.{tool_evaluation, zero_evaluation};
 ghost use Rattle.sizes.specs.SizeLaws.{SizesSmall};
 ghost use Rattle.evaluation.specs.FoundSmall.{FoundSmall};
 
 use branches::branch_number;
-use held_sizes::difference_of;
 use package::arguments::ToolMeasurement;
-use package::found::{Evaluation, Found, IN_TOLERANCE, Sizes, ZERO_BRANCH};
+use package::found::{Evaluation, Found, Held, IN_TOLERANCE, Sizes, ZERO_BRANCH};
 use tolerance::verdict_of;
+
+// A size less EV and less its setpoint. No call of a user.
+pub fn difference_of(h: Held, ev: i64) -> i64
+    requires { (nat_abs h.size ≤ 20200000) × (nat_abs h.setpoint ≤ 10000000) × (nat_abs ev ≤ 32768) }
+    ensures { (result ≡ difference h ev) × (nat_abs result ≤ 40000000) }
+{
+    h.size - ev - h.setpoint
+}
 
 // What a measurement with tool offset comes to. No call of a user.
 pub fn tool_evaluation(a: ToolMeasurement, f: Found) -> Evaluation

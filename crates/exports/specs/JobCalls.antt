@@ -9,7 +9,6 @@ use Rattle.rules.specs.Calls.{Call, meaning}
 use Rattle.area.specs.Table.{area_length}
 use Rattle.area.specs.Called.{called}
 use Rattle.job_limits.specs.JobRules.{job_refusal}
-use Rattle.number_counts.specs.Counts.{at}
 use Rattle.job_text.specs.Letters.{Letter, letters, by_letter, form_of}
 use Rattle.job_text.specs.Lines.{Numbers, none, all, numbers_of, Said, malformed, says, counted, said_behind, said_by}
 use Rattle.job_lines.specs.LineCalled.{line_called}
@@ -51,7 +50,7 @@ behind_given byte none = by_letter_lem Given letters byte (counted none) tt (tt,
 behind_given byte (all zs) =
     by_letter_lem Given letters byte (counted (all zs)) tt
     (each_so {P = λ l. Given (says (l.call zs))} {Q = λ l. Given (counted (all zs) l)}
-    (λ l h. unless (eqb (length zs) (l.fields (at zs 0))) (says (l.call zs)) h) letters
+    (λ l h. unless (eqb (length zs) l.fields) (says (l.call zs)) h) letters
     ((tt, tt), ((tt, tt), ((tt, tt), ((tt, tt), ((tt, tt), ((tt, tt), ((tt, tt), tt))))))))
 
 line_given : (s : List ℕ) → Given (said_by s)

@@ -1,5 +1,5 @@
--- The units of a float by its bits: of equal fractions, of the exponent's field and the digits, and of the bits with no sign. Those of a reading by its use.
-use mathlib.Core.Path.{◌≡◌, refl, ap, ap₂, sym, ◌∙◌, subst}
+-- The units of a float by its bits: of equal fractions, of the exponent's field and the digits, and of the bits with no sign.
+use mathlib.Core.Path.{◌≡◌, refl, ap, sym, ◌∙◌, subst}
 use mathlib.Core.Bool.{Bool, true, false, cond, not}
 use Prim.Native.Nat.{ℕ, zero, suc, ◌+◌, ◌-◌, ◌*◌, ◌/◌, ◌%◌, ◌^◌, ◌<◌, ◌≤◌}
 use native.Mathlib.Nat.{mul_assoc, mul_comm, add-mul, mul-le-mul, mul-le-mul_right, mul-div-mul_right, le_of_mul-le-mul_right, lt_of_not-le, div-eq_of_lt, add-div_right, div-div-eq-div-mul}
@@ -13,10 +13,9 @@ use lib.Ieee.Exact.{HasValue, odd_sign}
 use lib.Ieee.Fits.{down_pos}
 use Rattle.signed.specs.Ranges.{minus}
 use Rattle.signed.specs.Rounding.{halves_up}
-use Rattle.package.specs.declared.arguments.Reading.{Reading}
 use Rattle.rules.specs.Readings.{good_float, units_of, signed}
 use Rattle.floats.specs.declared.Units.{Units}
-use Rattle.floats.specs.Units.{units, units_if, units_in, reading_in}
+use Rattle.floats.specs.Units.{units, units_if, units_in}
 
 -- the units of a / b mm with a sign
 abbrev pub fraction : Bool → ℕ → ℕ → Units
@@ -216,7 +215,3 @@ unfolding is_nan
 is_nan_lem nan e = refl
 is_nan_lem (inf s) e = absurd (subst T (sym e) tt)
 is_nan_lem (fin s m x) e = absurd (subst T (sym e) tt)
-
--- ---- a reading, by what its use and its axis are
-pub used_on : (r : Reading) {u : Units} {used v : Bool} {n m : ℤ} → u ≡ reading_in used r n → used ≡ v → n ≡ m → u ≡ reading_in v r m
-used_on r e f g = e ∙ ap₂ (λ (v : Bool) (m : ℤ). reading_in v r m) f g

@@ -1,13 +1,13 @@
 // Positions of what a float box reports. Request 2026-01.
-ghost use Rattle.std.specs.Prelude.{◌≡◌, ◌+◌, ◌-◌, ◌*◌, ◌/◌, ◌%◌, ◌^◌, ◌≤◌};
+ghost use Rattle.std.specs.Prelude.{◌≡◌, true, ◌+◌, ◌-◌, ◌*◌, ◌/◌, ◌%◌, ◌^◌, ◌≤◌};
 ghost use Rattle.std.specs.Float.Ieee.{of_bits};
 ghost use Rattle.std.specs.Float.{binary32};
 ghost use Rattle.signed.specs.Rounding.{halves_up};
 ghost use Rattle.rules.specs.Readings as rules;
-ghost use Rattle.rules.specs.Readings.{first_axis, uses_second, uses_third};
-ghost use Rattle.floats.specs.Units.{units, units_in, reading_in, first_in, second_in, third_in, positions_of};
+ghost use Rattle.rules.specs.Readings.{first_axis, uses_second, uses_third, readings_ok, raws_of};
+ghost use Rattle.floats.specs.Units.{units, units_in, reading_in};
 
-use package::arguments::{Probing, Raws, Reading, Report};
+use package::arguments::{Probing, Raws, Reading, Readings, Report};
 use package::found::{Form, Kind};
 
 // A position in u, and whether it is good: 0 where it is not.
@@ -146,31 +146,20 @@ fn uses_third(k: Kind) -> bool
     }
 }
 
-// The position that the first reading of a measurement gives.
-pub fn first_units(k: Kind, a: Probing, r: Reading) -> Units
-    ensures { result ≡ first_in k a r }
+// The positions that the readings of a measurement give.
+pub fn positions_of(k: Kind, a: Probing, q: Readings) -> Positions
+    ensures { (result.good ≡ readings_ok k a q) × (result.good ≡ true → result.raws ≡ raws_of k a q) }
 {
-    reading_units(true, r, first_axis(k, a))
-}
-
-// The position that the second gives.
-pub fn second_units(k: Kind, a: Probing, r: Reading) -> Units
-    ensures { result ≡ second_in k a r }
-{
-    reading_units(uses_second(k), r, first_axis(k, a))
-}
-
-// The position that the third gives, or the fourth.
-pub fn third_units(k: Kind, r: Reading) -> Units
-    ensures { result ≡ third_in k r }
-{
-    reading_units(uses_third(k), r, 2)
-}
-
-// The positions of a measurement, each with whether it is good.
-pub fn positions_of(u1: Units, u2: Units, u3: Units, u4: Units) -> Positions
-    ensures { result ≡ positions_of u1 u2 u3 u4 }
-{
+    let axis = first_axis(k, a);
+    let third = uses_third(k);
+    let q1 = q.r1;
+    let q2 = q.r2;
+    let q3 = q.r3;
+    let q4 = q.r4;
+    let u1 = reading_units(true, q1, axis);
+    let u2 = reading_units(uses_second(k), q2, axis);
+    let u3 = reading_units(third, q3, 2);
+    let u4 = reading_units(third, q4, 2);
     let raws = Raws {
         r1: u1.position,
         r2: u2.position,

@@ -1,7 +1,7 @@
 -- Request 2026-01: "A G line must answer as the T line with the converted raws, 0 for an unused one, where both keep to 200 bytes."
-use Rattle.std.specs.Prelude.{◌≡◌, Bool, true, false, ◌&&◌, ℕ, suc, ◌+◌, ◌<◌, ◌≤◌, ltb, leb, ℤ, pos, nat_abs, get_or, drop}
-use Rattle.std.proofs.Math.Path.{refl, ap}
-use Rattle.std.proofs.Common.{sym, ◌∙◌, arith, le-leb, lt-ltb, eq-eqb, eqb-true, ltb-true}
+use Rattle.std.specs.Prelude.{◌≡◌, refl, Bool, true, false, ◌&&◌, ℕ, ◌+◌, ◌<◌, ◌≤◌, ltb, leb, ℤ, pos, nat_abs, get_or, drop}
+use Rattle.std.proofs.Math.Path.{ap}
+use Rattle.std.proofs.Common.{sym, ◌∙◌, arith, le-leb, eq-eqb, eqb-true, ltb-true}
 use Rattle.std.proofs.Math.Bool.{cond, and-eq-true_iff}
 use mathlib.Core.List.{List}
 use Rattle.std.proofs.Math.Dec.{eqb}
@@ -14,7 +14,7 @@ use Rattle.package.specs.declared.arguments.Reading.TheVariants.{Reported}
 use Rattle.package.specs.declared.arguments.ToolMeasurement.{ToolMeasurement}
 use Rattle.package.specs.declared.arguments.ToolReadings.{ToolReadings}
 use Rattle.rules.specs.Stores.{Package}
-use Rattle.rules.specs.Kinds.{tool_kind_number, tool_kind, further}
+use Rattle.rules.specs.Kinds.{tool_kind_number, tool_kind}
 use Rattle.rules.specs.Measuring.{lent}
 use Rattle.rules.specs.Tool.{tool_arguments_with, tool_at, good_tool}
 use Rattle.rules.specs.Readings.{good_if, position_if, picked, first_axis, uses_second, uses_third}
@@ -22,8 +22,7 @@ use Rattle.rules.specs.ReadingLaws.{good_in_range}
 use Rattle.rules.specs.Calls.{Call, measure_tool, measure_tool_readings, meaning, done, refusal, step, evaluation}
 use Rattle.rules.specs.Results.{no_evaluation, evaluated_by}
 use Rattle.rules.specs.WholeReadings.{tool_whole, same_refusal, same_step, same_answer}
-use Rattle.number_counts.specs.Counts.{at, tool_fields, fields_for, as_many, enough}
-use Rattle.arguments.specs.Arguments.{probing_of, tool_of, float_of, reported_of}
+use Rattle.arguments.specs.Arguments.{at, probing_of, tool_of, float_of, reported_of}
 use Rattle.job_text.specs.Letters.{letter_g, raw, form_of}
 use Rattle.job_text.specs.Lines.{Numbers, none, all, numbers_of, malformed, says, said_behind, said_by}
 use Rattle.g_lines.specs.Joined.{joined}
@@ -50,7 +49,7 @@ report z = record { x = float_of z; y = float_of z; z = float_of z }
 good_held : (zs : List ℤ) → good_tool (reported_of zs) ≡ true → Held (tool_at (reported_of zs)).raws
 good_held zs e =
     let k = tool_kind (at zs 0) in
-    let n = first_axis k (probing_of tool_fields zs) in
+    let n = first_axis k (probing_of zs) in
     let f = report (at zs 7) in
     let g = report (at zs 8) in
     let h = report (at zs 9) in
@@ -69,14 +68,12 @@ converted_held zs h = go (tool_kind_number (at zs 0)) h
     go false h = (omega arith, (omega arith, (omega arith, (omega arith, tt))))
 
 -- ---- the measurement of a line whose raws are replaced
-module _ (q : Raws) (zs : List ℤ) where
-  place : (n : ℕ) → length zs ≡ n → (i : ℕ) → ltb i n ≡ true → at (numbers_with q 0 zs) i ≡ cond (raw i) (raw_of q i) (at zs i)
-  place n many i t = let z : 0 + i ≡ i = omega arith in number_with q 0 zs i (omega (arith, ltb-true i n t)) ∙ rw z
+module _ (q : Raws) (zs : List ℤ) (many : length zs ≡ 21) where
+  place : (i : ℕ) → ltb i 21 ≡ true → at (numbers_with q 0 zs) i ≡ cond (raw i) (raw_of q i) (at zs i)
+  place i t = let z : 0 + i ≡ i = omega arith in number_with q 0 zs i (omega (arith, ltb-true i 21 t)) ∙ rw z
 
-  -- by whether its kind has a further number
-  tool_with_lem : (b : Bool) → further (at zs 0) ≡ b → length zs ≡ cond b (suc tool_fields) tool_fields → tool_of (numbers_with q 0 zs) ≡ measured_with (reported_of zs) q
-  tool_with_lem true e many = simp (place (suc tool_fields) many) refl
-  tool_with_lem false e many = simp (place tool_fields many, e) refl
+  tool_with_lem : tool_of (numbers_with q 0 zs) ≡ measured_with (reported_of zs) q
+  tool_with_lem = simp place refl
 
 -- ---- a measurement with readings answers as the one with their converted raws
 wrong_kind : (t : ToolReadings) (p : Package) → tool_kind_number t.probing.kind ≡ false → refusal p (measure_tool_readings t lent 0) ≡ 2
@@ -109,21 +106,21 @@ alike t h = go (tool_kind_number t.probing.kind) refl h
 
 -- ---- a line of letter G that says a call
 by_numbers : (t : Bool) (r : Numbers) (c : Call) → cond t (said_behind letter_g r) malformed ≡ says c
-    → (r ≡ all (listed r)) × (length (listed r) ≡ fields_for tool_fields (at (listed r) 0)) × (c ≡ measure_tool_readings (reported_of (listed r)) lent 0)
+    → (r ≡ all (listed r)) × (length (listed r) ≡ 21) × (c ≡ measure_tool_readings (reported_of (listed r)) lent 0)
 by_numbers false r c e = let x : ◌≡◌ {A = ℕ} 0 1 = cc in absurd (omega arith)
 by_numbers true none c e = let x : ◌≡◌ {A = ℕ} 0 1 = cc in absurd (omega arith)
-by_numbers true (all zs) c e = go (as_many tool_fields zs) refl e
+by_numbers true (all zs) c e = go (eqb (length zs) 21) refl e
   where
-    go : (t : Bool) → as_many tool_fields zs ≡ t → cond t (says (measure_tool_readings (reported_of zs) lent 0)) malformed ≡ says c
-        → (all zs ≡ all zs) × (length zs ≡ fields_for tool_fields (at zs 0)) × (c ≡ measure_tool_readings (reported_of zs) lent 0)
-    go true l e = (refl, eqb-true (length zs) (fields_for tool_fields (at zs 0)) l, cc)
+    go : (t : Bool) → eqb (length zs) 21 ≡ t → cond t (says (measure_tool_readings (reported_of zs) lent 0)) malformed ≡ says c
+        → (all zs ≡ all zs) × (length zs ≡ 21) × (c ≡ measure_tool_readings (reported_of zs) lent 0)
+    go true l e = (refl, eqb-true (length zs) 21 l, cc)
     go false l e = let x : ◌≡◌ {A = ℕ} 0 1 = cc in absurd (omega arith)
 
 some : (s : List ℕ) → 1 ≤ length (cut comma s)
 some s = rw (cut_first comma s) (omega arith)
 
 module _ (s : List ℕ) (c : Call) (g : get_or s 0 0 ≡ letter_g) (said : said_by s ≡ says c) where
-  read : (numbers_of (form_of letter_g) 0 (fields_of s) ≡ all (numbers_in s)) × (length (numbers_in s) ≡ fields_for tool_fields (at (numbers_in s) 0))
+  read : (numbers_of (form_of letter_g) 0 (fields_of s) ≡ all (numbers_in s)) × (length (numbers_in s) ≡ 21)
       × (c ≡ measure_tool_readings (readings_in s) lent 0)
   unfolding said_by
   read = by_numbers (leb (length s) 200 && eqb (get_or s 1 0) comma) (numbers_of (form_of letter_g) 0 (fields_of s)) c (rw g at said)
@@ -141,16 +138,13 @@ module _ (s : List ℕ) (c : Call) (g : get_or s 0 0 ≡ letter_g) (said : said_
       let apart : cut comma (joined fs) ≡ fs =
       cut_joined fs (rw (with_some q 0 (fields_of s)) (some (drop 2 s))) (with_without q held 0 (fields_of s) (cut_without comma (drop 2 s))) in
       let ws = numbers_with q 0 (numbers_in s) in
-      let zs = numbers_in s in
-      let long = enough tool_fields zs (eq-eqb (length zs) (fields_for tool_fields (at zs 0)) read.1) in
-      let kind : at ws 0 ≡ at zs 0 = place q zs (length zs) refl 0 (lt-ltb 0 (length zs) (omega (arith, long))) in
-      let many : length ws ≡ fields_for tool_fields (at ws 0) = numbers_as_many q 0 (numbers_in s) ∙ read.1 ∙ ap (fields_for tool_fields) (sym kind) in
+      let many : length ws ≡ 21 = numbers_as_many q 0 (numbers_in s) ∙ read.1 in
       ap (λ (b : Bool). cond (b && true) (said_behind letter_t (numbers_of (form_of letter_t) 0 (cut comma (joined fs)))) malformed)
       (le-leb (length (t_line s)) 200 h)
       ∙ ap (λ (l : List (List ℕ)). said_behind letter_t (numbers_of (form_of letter_t) 0 l)) apart
       ∙ ap (said_behind letter_t) (numbers_with_lem q held 0 (fields_of s) (numbers_in s) read.0)
-      ∙ ap (λ (b : Bool). cond b (says (measure_tool (tool_of ws) lent 0)) malformed) (eq-eqb (length ws) (fields_for tool_fields (at ws 0)) many)
-      ∙ ap (λ (a : ToolMeasurement). says (measure_tool a lent 0)) (tool_with_lem q (numbers_in s) (further (at (numbers_in s) 0)) refl read.1)
+      ∙ ap (λ (b : Bool). cond b (says (measure_tool (tool_of ws) lent 0)) malformed) (eq-eqb (length ws) 21 many)
+      ∙ ap (λ (a : ToolMeasurement). says (measure_tool a lent 0)) (tool_with_lem q (numbers_in s) read.1)
 
   -- "A G line must answer as the T line"
   pub answers_as_t : Convertible (readings_in s) → length (t_line s) ≤ 200 → (said_by (t_line s) ≡ says (t_call s)) × Alike c (t_call s)

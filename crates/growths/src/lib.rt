@@ -4,7 +4,7 @@ ghost use Rattle.rules.specs.Sizes.{pair_in};
 ghost use Rattle.rules.specs.Zero.{corrects, growth};
 ghost use Rattle.sizes.specs.SizeLaws.{SizesSmall};
 
-use held_sizes::difference_of;
+use evaluation::difference_of;
 use package::arguments::Probing;
 use package::found::{Form, Kind, Sizes};
 use signed::same;

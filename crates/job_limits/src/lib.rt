@@ -1,9 +1,9 @@
 // Why a job does not run. Document 01, 'Alarm numbers'.
 ghost use Rattle.std.specs.Prelude.{◌≡◌};
-ghost use Rattle.job_limits.specs.JobRules.{ended, job_refusal};
+ghost use Rattle.job_limits.specs.JobRules.{job_refusal};
 
 use line_counts::count_lines;
-use package::refusals::{DONE, NO_ROOM, WRONG_JOB};
+use package::refusals::{DONE, EMPTY_JOB, NO_ROOM, WRONG_JOB};
 use text::LINE_FEED;
 
 // The most bytes and lines of a job, and the bytes of output that it needs for each line.
@@ -13,25 +13,18 @@ pub const LINES_LIMIT: usize = 1_000;
 
 pub const LINE_ROOM: usize = 40;
 
-// Whether the last line is ended; an empty job has no last line that could be unended.
-pub fn is_ended(job: &[u8]) -> bool
-    ensures { result ≡ ended job.now }
-{
-    let size = job.len();
-    if size == 0 {
-        return true;
-    }
-    job[size - 1] == LINE_FEED
-}
-
 // Why a job does not run with room for so many bytes of output, 0 where it runs.
 pub fn job_refusal(job: &[u8], room: usize) -> u32
     ensures { result ≡ job_refusal job.now room }
 {
-    if JOB_LIMIT < job.len() {
+    let size = job.len();
+    if size == 0 {
+        return EMPTY_JOB;
+    }
+    if JOB_LIMIT < size {
         return WRONG_JOB;
     }
-    if !is_ended(job) {
+    if job[size - 1] != LINE_FEED {
         return WRONG_JOB;
     }
     let lines = count_lines(job);

@@ -1,6 +1,10 @@
 // What the job program says of a job that it cannot run: one line on standard error, what is wrong and what to do.
-use job_limits::{JOB_LIMIT, is_ended};
+ghost use Rattle.std.specs.Prelude.{◌≡◌, ◌≤◌, length};
+
+use job_limits::JOB_LIMIT;
 use libc::STDERR_FILENO;
+use package::refusals::EMPTY_JOB;
+use text::LINE_FEED;
 
 fn say(path: &[u8], what: &[u8]) {
     io::write_all(STDERR_FILENO, b"measure: ");
@@ -8,16 +12,19 @@ fn say(path: &[u8], what: &[u8]) {
     io::write_all(STDERR_FILENO, what);
 }
 
-// Why a job was refused by 12, one of its three cases. No call of a user.
-pub fn refused(job: &[u8], path: &[u8]) {
-    if JOB_LIMIT < job.len() {
+// Which of its three cases refusal 12 is.
+fn wrong_job(job: &[u8], path: &[u8])
+    requires { 1 ≤ length job.now }
+{
+    let size = job.len();
+    if JOB_LIMIT < size {
         say(
             path,
             b": refusal 12, the job has over 65,536 bytes; split it\n",
         );
         return;
     }
-    if !is_ended(job) {
+    if job[size - 1] != LINE_FEED {
         say(
             path,
             b": refusal 12, the last line has no end; add a line feed\n",
@@ -28,6 +35,20 @@ pub fn refused(job: &[u8], path: &[u8]) {
         path,
         b": refusal 12, the job has over 1,000 lines; split it\n",
     );
+}
+
+// Why a job was refused, by 11 or 12. No call of a user.
+pub fn refused(refusal: u32, job: &[u8], path: &[u8])
+    requires { length job.now ≡ 0 → refusal ≡ 11 }
+{
+    if refusal == EMPTY_JOB {
+        say(
+            path,
+            b": refusal 11, the job is empty; write one call a line\n",
+        );
+        return;
+    }
+    wrong_job(job, path);
 }
 
 pub fn unreadable(path: &[u8]) {

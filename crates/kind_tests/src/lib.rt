@@ -2,8 +2,7 @@
 ghost use Rattle.std.specs.Prelude.{◌≡◌, [], ◌∷◌};
 ghost use Rattle.lists.specs.Each.{every};
 ghost use Rattle.rules.specs.Stores.{position_range, width_range};
-ghost use Rattle.rules.specs.Kinds.{plane_or_pair};
-ghost use Rattle.rules.specs.Sizes.{setpoints, numbers_ok, positions_ok};
+ghost use Rattle.rules.specs.Sizes.{numbers_ok, positions_ok};
 
 use kinds::single_centre;
 use package::arguments::{Probing, Raws};
@@ -42,27 +41,16 @@ fn width_ok(v: i64) -> bool
     in_range(v, 1, POSITION_LIMIT)
 }
 
-// Whether the setpoints are in range: a position of a plane, a width of each pair that has one.
-fn setpoints_ok(k: Kind, a: Probing) -> bool
-    ensures { result ≡ every (plane_or_pair k.form position_range width_range) (setpoints k a) }
-{
-    let form = k.form;
-    match form {
-        Form::Plane => position_ok(a.setpoint),
-        Form::Single => width_ok(a.setpoint),
-        Form::Double => width_ok(a.setpoint) & (!k.rectangle | width_ok(a.ordinate)),
-    }
-}
-
-// Whether the used positions, set centres and setpoints are in range.
+// Whether the used positions, set centres and setpoint are in range.
 pub fn positions_ok(k: Kind, a: Probing, q: Raws) -> bool
     ensures { result ≡ positions_ok k a q }
 {
     let form = k.form;
-    let set = setpoints_ok(k, a);
     match form {
-        Form::Plane => position_ok(q.r1) & set,
-        Form::Single => both_ok(q.r1, q.r2) & position_ok(single_centre(a)) & set,
-        Form::Double => (both_ok(q.r1, q.r2) & both_ok(q.r3, q.r4)) & both_ok(a.c1, a.c2) & set,
+        Form::Plane => position_ok(q.r1) & position_ok(a.setpoint),
+        Form::Single => both_ok(q.r1, q.r2) & position_ok(single_centre(a)) & width_ok(a.setpoint),
+        Form::Double => (both_ok(q.r1, q.r2) & both_ok(q.r3, q.r4))
+            & both_ok(a.c1, a.c2)
+            & width_ok(a.setpoint),
     }
 }

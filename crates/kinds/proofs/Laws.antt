@@ -14,17 +14,17 @@ use Rattle.package.specs.declared.found.Form.{Form}
 use Rattle.package.specs.declared.found.Form.TheVariants.{Plane, Single, Double}
 use Rattle.package.specs.contracts.found.Form.{the_type}
 use Rattle.rules.specs.Stores.{pick}
-use Rattle.rules.specs.Kinds.{plane_or_pair, one_or_both}
+use Rattle.rules.specs.Kinds.{by_form}
 
 -- a form that is no plane
-pub a_pair : {A : Type 0} (f : Form) (a b : A) → OneOf (1 ∷ 2 ∷ []) (tag_of the_type f) → plane_or_pair f a b ≡ b
+pub a_pair : {A : Type 0} (f : Form) (a b : A) → OneOf (1 ∷ 2 ∷ []) (tag_of the_type f) → by_form f a b b ≡ b
 a_pair Plane a b (inl e) = absurd (omega arith)
 a_pair Plane a b (inr e) = absurd (omega arith)
 a_pair Single a b h = refl
 a_pair Double a b h = refl
 
 -- a form that is no double
-pub not_double : {A : Type 0} (f : Form) (a b : A) → OneOf (0 ∷ 1 ∷ []) (tag_of the_type f) → one_or_both f a b ≡ a
+pub not_double : {A : Type 0} (f : Form) (a b : A) → OneOf (0 ∷ 1 ∷ []) (tag_of the_type f) → by_form f a a b ≡ a
 not_double Plane a b h = refl
 not_double Single a b h = refl
 not_double Double a b (inl e) = absurd (omega arith)

@@ -13,8 +13,8 @@ use Rattle.package.specs.declared.arguments.Raws.{Raws}
 use Rattle.rules.specs.Stores.{axis_number, direction_number, probe_number, position_range, width_range}
 use Rattle.rules.specs.RefusalLaws.{all_of}
 use Rattle.rules.specs.Probes.{on}
-use Rattle.rules.specs.Kinds.{kind, by_form, plane_or_pair}
-use Rattle.rules.specs.Sizes.{pairs, touches, raw_at, setpoints, numbers_ok, positions_ok}
+use Rattle.rules.specs.Kinds.{kind, by_form}
+use Rattle.rules.specs.Sizes.{pairs, touches, raw_at, numbers_ok, positions_ok}
 use Rattle.kinds.specs.Touches.{Placed, Positioned}
 
 -- ---- numbers
@@ -58,31 +58,27 @@ module _ (k : Kind) (a : Probing) (passed : numbers_ok k a ≡ true) where
           (record { axis = e; direction = low }, record { axis = e; direction = high })
 
       go : (f : Form) → by_form f (axis_number a.axis && direction_number a.direction) (within (pos 1) (pos 2) a.axis) true ≡ true →
-          Each (λ p. Placed p.low.way × Placed p.high.way) (pairs (kind f k.inside k.rectangle) a)
+          Each (λ p. Placed p.low.way × Placed p.high.way) (pairs (kind f k.inside) a)
       go Plane e = tt
       go Single e = (both (axis_number_lem a.axis e), tt)
       go Double e = (both refl, (both refl, tt))
 
 -- ---- positions
 module _ (k : Kind) (a : Probing) (q : Raws) (passed : positions_ok k a q ≡ true) where
-  abbrev setpoint_ok : ℤ → Bool
-  setpoint_ok = plane_or_pair k.form position_range width_range
+  abbrev setpoint_ok : Bool
+  setpoint_ok = by_form k.form (position_range a.setpoint) (width_range a.setpoint) (width_range a.setpoint)
 
-  positions : (every (λ t. position_range (raw_at q t)) (touches k a) ≡ true) ×
-      (every (λ p. position_range p.set) (pairs k a) ≡ true) ×
-      (every setpoint_ok (setpoints k a) ≡ true)
+  positions : (every (λ t. position_range (raw_at q t)) (touches k a) ≡ true) × (every (λ p. position_range p.set) (pairs k a) ≡ true) × (setpoint_ok ≡ true)
   unfolding positions_ok
   positions =
-      let t =
-      all_of (every (λ t. position_range (raw_at q t)) (touches k a))
-      (every (λ p. position_range p.set) (pairs k a) ∷ every setpoint_ok (setpoints k a) ∷ []) passed in
+      let t = all_of (every (λ t. position_range (raw_at q t)) (touches k a)) (every (λ p. position_range p.set) (pairs k a) ∷ setpoint_ok ∷ []) passed in
       (t.0, t.1.0, t.1.1.0)
 
-  pub setpoints_passed : Each (λ z. setpoint_ok z ≡ true) (setpoints k a)
-  setpoints_passed = every_each setpoint_ok (setpoints k a) positions.2
+  pub setpoint_passed : setpoint_ok ≡ true
+  setpoint_passed = positions.2
 
   pub plane_raw : k.form ≡ Plane → position_range q.r1 ≡ true
-  plane_raw f = (every_each (λ t. position_range (raw_at q t)) (touches (kind Plane k.inside k.rectangle) a) (rw f at positions.0)).0
+  plane_raw f = (every_each (λ t. position_range (raw_at q t)) (touches (kind Plane k.inside) a) (rw f at positions.0)).0
 
   pub pairs_positioned : Each (Positioned q) (pairs k a)
   pairs_positioned =
@@ -90,7 +86,7 @@ module _ (k : Kind) (a : Probing) (q : Raws) (passed : positions_ok k a q ≡ tr
       go k.form raws (every_each (λ p. position_range p.set) (pairs k a) positions.1)
     where
       go : (f : Form) →
-          let g = kind f k.inside k.rectangle in
+          let g = kind f k.inside in
           Each (λ t. position_range (raw_at q t) ≡ true) (touches g a) → Each (λ p. position_range p.set ≡ true) (pairs g a) → Each (Positioned q) (pairs g a)
       go Plane t s = tt
       go Single t s = (record { low = t.0; high = t.1.0; set = s.0 }, tt)

@@ -1,13 +1,13 @@
-// The surfaces that a kind of measurement touches. Document 01, 'Measured sizes'.
+// The kinds of measurement, and the surfaces that each touches. Document 01, 'Measured sizes'.
 ghost use Rattle.std.specs.Prelude.{◌≡◌, Bool, [], ◌∷◌};
 ghost use Rattle.lists.specs.Each.{Each};
 ghost use Rattle.package.specs.declared.found.Form.TheVariants.{Single, Double};
-ghost use Rattle.rules.specs.Kinds.{kind};
+ghost use Rattle.rules.specs.Kinds.{kind, tool_kind};
 ghost use Rattle.rules.specs.Sizes.{pairs, plane};
 ghost use Rattle.kinds.specs.Touches.{touch, across};
 
 use package::arguments::Probing;
-use package::found::Kind;
+use package::found::{Form, Kind};
 
 // A surface that is touched: its axis, the direction in which it is touched, and the number of its raw.
 #[derive(Drop)]
@@ -25,7 +25,7 @@ pub struct Across {
     pub set: i64,
 }
 
-// The pairs of a kind that has one on each of axes 1 and 2.
+// The pairs of a hole or shaft, on axes 1 and 2.
 #[derive(Drop)]
 pub struct Both {
     pub abscissa: Across,
@@ -37,6 +37,34 @@ pub struct Both {
 struct Ways {
     low: i64,
     high: i64,
+}
+
+// The kind of a number with tool offset; a plane where there is none.
+pub fn kind_of(n: i64) -> Kind
+    ensures { result ≡ tool_kind n }
+{
+    match n {
+        1 => Kind {
+            form: Form::Double,
+            inside: true,
+        },
+        2 => Kind {
+            form: Form::Double,
+            inside: false,
+        },
+        3 => Kind {
+            form: Form::Single,
+            inside: true,
+        },
+        4 => Kind {
+            form: Form::Single,
+            inside: false,
+        },
+        _ => Kind {
+            form: Form::Plane,
+            inside: false,
+        },
+    }
 }
 
 // The surface of a plane.
@@ -62,7 +90,7 @@ fn ways_of(k: Kind) -> Ways
 
 // The set centre of a groove or web, by its axis.
 pub fn single_centre(a: Probing) -> i64
-    ensures { (inside rectangle : Bool) → Each (λ p. p.set ≡ result) (pairs (kind Single inside rectangle) a) }
+    ensures { (inside : Bool) → Each (λ p. p.set ≡ result) (pairs (kind Single inside) a) }
 {
     let axis = a.axis;
     match axis {
@@ -93,7 +121,7 @@ pub fn single_pair(k: Kind, a: Probing) -> Across
     }
 }
 
-// The pairs of a kind with one on both axes. No call of a user.
+// The pairs of a hole or shaft. No call of a user.
 pub fn both_pairs(k: Kind, a: Probing) -> Both
     requires { k.form ≡ Double }
     ensures { pairs k a ≡ across result.abscissa ∷ across result.ordinate ∷ [] }

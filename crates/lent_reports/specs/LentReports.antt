@@ -6,6 +6,10 @@ use Rattle.package.specs.declared.arguments.Report.{Report}
 use Rattle.package.specs.declared.arguments.Reading.{Reading}
 use Rattle.package.specs.declared.arguments.Reading.TheVariants.{Whole, Reported}
 use Rattle.package.specs.declared.arguments.Readings.{Readings}
+use Rattle.package.specs.declared.arguments.ToolMeasurement.{ToolMeasurement}
+use Rattle.package.specs.declared.arguments.ToolReadings.{ToolReadings}
+use Rattle.package.specs.declared.arguments.ZeroMeasurement.{ZeroMeasurement}
+use Rattle.package.specs.declared.arguments.ZeroReadings.{ZeroReadings}
 
 -- how many floats are lent
 abbrev pub report_floats : ℕ
@@ -30,3 +34,10 @@ lent_readings q floats reported =
       r3 = lent_reading (marked reported 4) q.r3 (report_at floats 6);
       r4 = lent_reading (marked reported 8) q.r4 (report_at floats 9);
     }
+
+-- a measurement with these readings in place of its whole positions
+abbrev pub tool_reported : ToolMeasurement → Readings → ToolReadings
+tool_reported a q = record { probing = a.probing; readings = q; tool = a.tool; ev = a.ev; mv = a.mv; k = a.k; limits = a.limits }
+
+abbrev pub zero_reported : ZeroMeasurement → Readings → ZeroReadings
+zero_reported a q = record { probing = a.probing; readings = q; offset = a.offset; tsa = a.tsa }

@@ -1,12 +1,10 @@
-// The positions of a measurement whose readings C lends as numbers and floats. Request 2026-01.
+// The readings of a measurement that C lends as numbers and floats. Request 2026-01.
 ghost use Rattle.std.specs.Prelude.{◌≡◌, ◌+◌, ◌≤◌, length};
-ghost use Rattle.floats.specs.Units.{Given};
-ghost use Rattle.arguments.specs.Arguments.{raws_of};
-ghost use Rattle.lent_reports.specs.LentReports.{report_floats, marked, report_at, lent_reading, lent_readings};
+ghost use Rattle.lent_reports.specs.LentReports.{report_floats, marked, report_at, lent_reading, lent_readings, tool_reported, zero_reported};
 
-use floats::{Positions, first_units, positions_of, second_units, third_units};
-use package::arguments::{Probing, Reading, Report};
-use package::found::Kind;
+use package::arguments::{
+    Raws, Reading, Readings, Report, ToolMeasurement, ToolReadings, ZeroMeasurement, ZeroReadings,
+};
 
 // How many floats are lent: X, Y and Z of each raw.
 pub const REPORT_FLOATS: usize = 12;
@@ -31,31 +29,54 @@ fn is_marked(reported: u32, bit: u32) -> bool
     reported / bit % 2 == 1
 }
 
-// A raw: the report whose X stands at place i where its bit is set, else whole.
-fn lent_reading(whole: i64, floats: &[f32], i: usize, reported: u32, bit: u32) -> Reading
-    requires { (i ≤ 9) × (length floats.now ≡ report_floats) × (1 ≤ bit) }
-    ensures { result ≡ lent_reading (marked reported bit) whole (report_at floats.now i) }
+// A raw that is a report, or whole.
+fn lent_reading(reported: bool, whole: i64, report: Report) -> Reading
+    ensures { result ≡ lent_reading reported whole report }
 {
-    if is_marked(reported, bit) {
-        return Reading::Reported(report_at(floats, i));
+    if reported {
+        return Reading::Reported(report);
     }
     Reading::Whole(whole)
 }
 
-// The positions by whole numbers, floats, and which raws are reports, each made a reading and used up at once. No call of a user.
-pub fn lent_positions(
-    k: Kind,
-    a: Probing,
-    numbers: &[i64],
-    floats: &[f32],
-    reported: u32,
-) -> Positions
-    requires { (11 ≤ length numbers.now) × (length floats.now ≡ report_floats) }
-    ensures { Given k a (lent_readings (raws_of numbers.now) floats.now reported) result }
+// The readings by whole positions, floats, and which raws are reports. No call of a user.
+pub fn lent_readings(q: Raws, floats: &[f32], reported: u32) -> Readings
+    requires { length floats.now ≡ report_floats }
+    ensures { result ≡ lent_readings q floats.now reported }
 {
-    let u1 = first_units(k, a, lent_reading(numbers[7], floats, 0, reported, 1));
-    let u2 = second_units(k, a, lent_reading(numbers[8], floats, 3, reported, 2));
-    let u3 = third_units(k, lent_reading(numbers[9], floats, 6, reported, 4));
-    let u4 = third_units(k, lent_reading(numbers[10], floats, 9, reported, 8));
-    positions_of(u1, u2, u3, u4)
+    let r1 = lent_reading(is_marked(reported, 1), q.r1, report_at(floats, 0));
+    let r2 = lent_reading(is_marked(reported, 2), q.r2, report_at(floats, 3));
+    let r3 = lent_reading(is_marked(reported, 4), q.r3, report_at(floats, 6));
+    let r4 = lent_reading(is_marked(reported, 8), q.r4, report_at(floats, 9));
+    Readings { r1, r2, r3, r4 }
+}
+
+// A measurement with tool offset with these readings.
+pub fn tool_reported(a: ToolMeasurement, readings: Readings) -> ToolReadings
+    ensures { result ≡ tool_reported a readings }
+{
+    let probing = a.probing;
+    let limits = a.limits;
+    ToolReadings {
+        probing,
+        readings,
+        tool: a.tool,
+        ev: a.ev,
+        mv: a.mv,
+        k: a.k,
+        limits,
+    }
+}
+
+// A measurement with zero offset with these readings.
+pub fn zero_reported(a: ZeroMeasurement, readings: Readings) -> ZeroReadings
+    ensures { result ≡ zero_reported a readings }
+{
+    let probing = a.probing;
+    ZeroReadings {
+        probing,
+        readings,
+        offset: a.offset,
+        tsa: a.tsa,
+    }
 }

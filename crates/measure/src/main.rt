@@ -18,7 +18,7 @@ fn print_answers(job: &[u8], path: &[u8]) {
     let mut output = [0u8; ROOM];
     let ran = run_job(&mut area, job, &mut output);
     if ran.refusal != DONE {
-        job_report::refused(job, path);
+        job_report::refused(ran.refusal, job, path);
         return;
     }
     let length = ran.length;

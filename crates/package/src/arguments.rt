@@ -21,7 +21,7 @@ pub struct Raws {
     pub r4: i64,
 }
 
-// What both ways of measuring are given beside their raws: c1 and c2 are set centres, ordinate is the setpoint of a rectangle's ordinate width.
+// What both ways of measuring are given beside their raws: c1 and c2 are set centres.
 #[derive(Drop)]
 pub struct Probing {
     pub kind: i64,
@@ -31,7 +31,6 @@ pub struct Probing {
     pub setpoint: i64,
     pub c1: i64,
     pub c2: i64,
-    pub ordinate: i64,
 }
 
 #[derive(Drop)]

@@ -18,12 +18,11 @@ pub enum Form {
     Double,
 }
 
-// A kind of measurement: inside kinds touch low in the negative direction, outside kinds in the positive; of a rectangle each width has its setpoint.
+// A kind of measurement: inside kinds touch low in the negative direction, outside kinds in the positive.
 #[derive(Drop)]
 pub struct Kind {
     pub form: Form,
     pub inside: bool,
-    pub rectangle: bool,
 }
 
 // The branches of a measurement with tool offset, by document 01's numbers.

@@ -11,13 +11,6 @@ pub const TOOL_COUNT: i64 = 32;
 
 pub const OFFSET_COUNT: i64 = 4;
 
-// The kinds of measurement: those with tool offset are counted from 0.
-pub const TOOL_KIND_GREATEST: i64 = 6;
-
-pub const ZERO_KIND_LEAST: i64 = 100;
-
-pub const ZERO_KIND_GREATEST: i64 = 106;
-
 // The range of each record: triggers and positions in u, wears and offsets in h.
 pub const TRIGGER_LIMIT: i64 = 100_000;
 

@@ -21,6 +21,8 @@ pub const LEAVES_RANGE: u32 = 9;
 
 pub const MALFORMED_LINE: u32 = 10;
 
+pub const EMPTY_JOB: u32 = 11;
+
 pub const WRONG_JOB: u32 = 12;
 
 pub const BAD_FLOAT: u32 = 13;

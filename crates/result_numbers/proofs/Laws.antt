@@ -26,7 +26,7 @@ use Rattle.result_sizes.specs.OutcomeLaws.{between_size, number_size, entries_sm
 use Rattle.evaluation.specs.FoundSmall.{FoundSmall, value_size}
 
 -- the entries that both ways of measuring have
-pub both_small : (k : Kind) (a : Probing) (s : Sizes) (ev : ℤ) → numbers_ok k a ≡ true → nat_abs a.kind ≤ 106 → SizesSmall s → nat_abs ev ≤ 32768
+pub both_small : (k : Kind) (a : Probing) (s : Sizes) (ev : ℤ) → numbers_ok k a ≡ true → nat_abs a.kind ≤ 104 → SizesSmall s → nat_abs ev ≤ 32768
     → Small (size_entries k a s ev)
 both_small k a s ev numbers kind t e = entries_small k a s ev t e kind (number_size 1 3 a.probe (probe_number_lem k a numbers))
 

@@ -1,6 +1,6 @@
 // The numbers of the result array that both ways of measuring have. Document 01, 'Result array'.
 ghost use Rattle.std.specs.Prelude.{◌≡◌, ◌≤◌, pos, nat_abs};
-ghost use Rattle.rules.specs.Kinds.{plane_or_pair};
+ghost use Rattle.rules.specs.Kinds.{by_form};
 ghost use Rattle.rules.specs.Results.{array, size_entries};
 ghost use Rattle.result_sizes.specs.ResultSizes.{Small};
 
@@ -17,7 +17,7 @@ pub fn narrow(v: i64) -> i32
 
 // The number of the manual's cycle: 978 for a plane, 977 for pairs.
 fn cycle_of(form: Form) -> i32
-    ensures { result ≡ plane_or_pair form (pos 978) (pos 977) }
+    ensures { result ≡ by_form form (pos 978) (pos 977) (pos 977) }
 {
     match form {
         Form::Plane => 978,

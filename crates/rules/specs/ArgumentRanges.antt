@@ -19,8 +19,8 @@ use Rattle.rules.specs.StoreRanges.{Between}
 use Rattle.rules.specs.Refusals.{first}
 use Rattle.rules.specs.RefusalLaws.{all_of, rising_is}
 use Rattle.rules.specs.Calibration.{calibration_rules}
-use Rattle.rules.specs.Kinds.{plane_or_pair}
-use Rattle.rules.specs.Sizes.{touches, pairs, raw_at, positions_ok, setpoints}
+use Rattle.rules.specs.Kinds.{by_form}
+use Rattle.rules.specs.Sizes.{touches, pairs, raw_at, positions_ok}
 use Rattle.rules.specs.Tool.{tool_kind_of, tool_rules}
 use Rattle.rules.specs.Zero.{zero_kind_of, zero_rules}
 use Rattle.rules.specs.Passed.{LimitsPassed, calibration_passed, tool_passed, zero_passed}
@@ -56,32 +56,32 @@ calibration_given stored a e =
       tsa = c.1.1.0;
     }
 
--- ---- a measurement: the raws, set centres and the setpoints that its kind uses; "a width setpoint in 1..10,000,000"
+-- ---- a measurement: the raws, set centres and the setpoint that its kind uses; "a width setpoint in 1..10,000,000"
 pub record PositionsGiven (k : Kind) (a : Probing) (q : Raws) : Type 0 where
   pub raws : Each (λ t. Position (raw_at q t)) (touches k a)
   pub centres : Each (λ p. Position p.set) (pairs k a)
-  pub setpoint : Each (Between (plane_or_pair k.form (minus 10000000) (pos 1)) (pos 10000000)) (setpoints k a)
+  pub setpoint : Between (by_form k.form (minus 10000000) (pos 1) (pos 1)) (pos 10000000) a.setpoint
 
 pub positions_given : (k : Kind) (a : Probing) (q : Raws) → positions_ok k a q ≡ true → PositionsGiven k a q
 unfolding positions_ok
 positions_given k a q e =
     let ok : (z : ℤ) → position_range z ≡ true → Position z = within_is (minus 10000000) (pos 10000000) in
-    let f = plane_or_pair k.form position_range width_range in
-    let t =
-    all_of (every (λ t. position_range (raw_at q t)) (touches k a)) (every (λ p. position_range p.set) (pairs k a) ∷ every f (setpoints k a) ∷ []) e in
+    let w = by_form k.form (position_range a.setpoint) (width_range a.setpoint) (width_range a.setpoint) in
+    let t = all_of (every (λ t. position_range (raw_at q t)) (touches k a)) (every (λ p. position_range p.set) (pairs k a) ∷ w ∷ []) e in
     record {
       raws = each_so {Q = λ t. Position (raw_at q t)} (λ t h. ok (raw_at q t) h) (touches k a) (every_each (λ t. position_range (raw_at q t)) (touches k a) t.0);
       centres = each_so {Q = λ p. Position p.set} (λ p h. ok p.set h) (pairs k a) (every_each (λ p. position_range p.set) (pairs k a) t.1.0);
-      setpoint = each_so (go k.form) (setpoints k a) (every_each f (setpoints k a) t.1.1.0);
+      setpoint = go k.form t.1.1.0;
     }
   where
-    go : (f : Form) (z : ℤ) → plane_or_pair f position_range width_range z ≡ true → Between (plane_or_pair f (minus 10000000) (pos 1)) (pos 10000000) z
-    go Plane z h = within_is (minus 10000000) (pos 10000000) z h
-    go Single z h = within_is (pos 1) (pos 10000000) z h
-    go Double z h = within_is (pos 1) (pos 10000000) z h
+    go : (f : Form) → by_form f (position_range a.setpoint) (width_range a.setpoint) (width_range a.setpoint) ≡ true
+        → Between (by_form f (minus 10000000) (pos 1) (pos 1)) (pos 10000000) a.setpoint
+    go Plane h = within_is (minus 10000000) (pos 10000000) a.setpoint h
+    go Single h = within_is (pos 1) (pos 10000000) a.setpoint h
+    go Double h = within_is (pos 1) (pos 10000000) a.setpoint h
 
 pub record ToolGiven (a : ToolMeasurement) : Type 0 where
-  pub kind : Between (pos 0) (pos 6) a.probing.kind
+  pub kind : Between (pos 0) (pos 4) a.probing.kind
   pub tool : Between (pos 1) (pos 32) a.tool
   pub ev : Between (pos 0) (pos 20) a.ev
   pub mv : Between (pos 0) (pos 20) a.mv
@@ -94,7 +94,7 @@ tool_given r a e =
     let t = (tool_passed r a e).arguments in
     let n = t.numbers in
     record {
-      kind = within_is (pos 0) (pos 6) a.probing.kind n.kind;
+      kind = within_is (pos 0) (pos 4) a.probing.kind n.kind;
       tool = within_is (pos 1) (pos 32) a.tool n.tool;
       ev = within_is (pos 0) (pos 20) a.ev n.ev;
       mv = within_is (pos 0) (pos 20) a.mv n.mv;
@@ -104,7 +104,7 @@ tool_given r a e =
     }
 
 pub record ZeroGiven (a : ZeroMeasurement) : Type 0 where
-  pub kind : Between (pos 100) (pos 106) a.probing.kind
+  pub kind : Between (pos 100) (pos 104) a.probing.kind
   pub offset : Between (pos 1) (pos 4) a.offset
   pub positions : PositionsGiven (zero_kind_of a) a.probing a.raws
   pub tsa : Between (pos 0) (pos 1000000) a.tsa
@@ -113,7 +113,7 @@ pub zero_given : (r : ZeroRecords) (a : ZeroMeasurement) → first (zero_rules r
 zero_given r a e =
     let t = (zero_passed r a e).arguments in
     record {
-      kind = within_is (pos 100) (pos 106) a.probing.kind t.numbers.kind;
+      kind = within_is (pos 100) (pos 104) a.probing.kind t.numbers.kind;
       offset = within_is (pos 1) (pos 4) a.offset t.numbers.offset;
       positions = positions_given (zero_kind_of a) a.probing a.raws t.positions;
       tsa = within_is (pos 0) (pos 1000000) a.tsa t.tsa;

@@ -47,15 +47,15 @@ wears_passed tool radius length e =
 
 pub record OffsetPassed (offset v1 v2 v3 : ℤ) : Type 0 where
   pub number : offset_number offset ≡ true
-  pub first_in_lem : offset_range v1 ≡ true
-  pub second_in_lem : offset_range v2 ≡ true
-  pub third_in_lem : offset_range v3 ≡ true
+  pub first_in : offset_range v1 ≡ true
+  pub second_in : offset_range v2 ≡ true
+  pub third_in : offset_range v3 ≡ true
 
 pub offset_passed : (offset v1 v2 v3 : ℤ) → first (offset_rules offset v1 v2 v3) ≡ 0 → OffsetPassed offset v1 v2 v3
 offset_passed offset v1 v2 v3 e =
     let by : (n : ℕ) → test n (offset_rules offset v1 v2 v3) ≡ true = λ n. test_passed n (offset_rules offset v1 v2 v3) tt e in
     let u = all_of (offset_range v1) (offset_range v2 ∷ offset_range v3 ∷ []) (by 3) in
-    record { number = by 2; first_in_lem = u.0; second_in_lem = u.1.0; third_in_lem = u.1.1.0 }
+    record { number = by 2; first_in = u.0; second_in = u.1.0; third_in = u.1.1.0 }
 
 -- ---- a calibration
 pub record CalibrationArgumentsPassed (a : Calibration) : Type 0 where

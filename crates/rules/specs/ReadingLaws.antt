@@ -84,8 +84,7 @@ module _ (k : Kind) (a : Probing) (q : Readings) where
   pub readings_touched : readings_ok k a q ≡ every (λ t. good_if true (reading_at q t) t.way.axis) (touches k a)
   readings_touched = go k.form
     where
-      go : (f : Form) → readings_ok (kind f k.inside k.rectangle) a q
-          ≡ every (λ t. good_if true (reading_at q t) t.way.axis) (touches (kind f k.inside k.rectangle) a)
+      go : (f : Form) → readings_ok (kind f k.inside) a q ≡ every (λ t. good_if true (reading_at q t) t.way.axis) (touches (kind f k.inside) a)
       go Plane =
           bracketed (good_if true q.r1 a.axis) (good_if false q.r2 a.axis) (good_if false q.r3 (pos 2)) (good_if false q.r4 (pos 2))
           ∙ rw (unused q.r2 a.axis, unused q.r3 (pos 2), unused q.r4 (pos 2))
@@ -97,8 +96,7 @@ module _ (k : Kind) (a : Probing) (q : Readings) where
   pub raws_touched : Each (λ t. raw_at (raws_of k a q) t ≡ position_if true (reading_at q t) t.way.axis) (touches k a)
   raws_touched = go k.form
     where
-      go : (f : Form) → Each (λ t. raw_at (raws_of (kind f k.inside k.rectangle) a q) t ≡ position_if true (reading_at q t) t.way.axis)
-          (touches (kind f k.inside k.rectangle) a)
+      go : (f : Form) → Each (λ t. raw_at (raws_of (kind f k.inside) a q) t ≡ position_if true (reading_at q t) t.way.axis) (touches (kind f k.inside) a)
       go Plane = (refl, tt)
       go Single = (refl, (refl, tt))
       go Double = (refl, (refl, (refl, (refl, tt))))

@@ -12,7 +12,7 @@ use Rattle.package.specs.declared.arguments.Raws.{Raws}
 use Rattle.package.specs.declared.arguments.Probing.{Probing}
 use Rattle.package.specs.declared.found.Kind.{Kind}
 use Rattle.rules.specs.Stores.{pick}
-use Rattle.rules.specs.Kinds.{plane_or_pair, one_or_both}
+use Rattle.rules.specs.Kinds.{by_form}
 
 -- ---- a float: not a number, an infinity, or m·2^e with a sign, where 2^e is up e / down e
 -- "13 for a used float that is not a number, infinite or beyond ±1000 mm"
@@ -51,13 +51,13 @@ position_if used (Reported f) n = cond used (units_of (picked f n)) (pos 0)
 -- ---- the readings of a measurement: every kind uses the first, pairs the second, holes and shafts all;
 -- "X for a hole's abscissa raws and Y for its ordinate raws"
 abbrev pub first_axis : Kind → Probing → ℤ
-first_axis k a = one_or_both k.form a.axis (pos 1)
+first_axis k a = by_form k.form a.axis a.axis (pos 1)
 
 abbrev pub uses_second : Kind → Bool
-uses_second k = plane_or_pair k.form false true
+uses_second k = by_form k.form false true true
 
 abbrev pub uses_third : Kind → Bool
-uses_third k = one_or_both k.form false true
+uses_third k = by_form k.form false false true
 
 -- 13: "a used float"
 abbrev pub readings_ok : Kind → Probing → Readings → Bool

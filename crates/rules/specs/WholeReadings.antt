@@ -76,8 +76,7 @@ module _ (t : ZeroReadings) (good : good_zero t ≡ true) where
 -- ---- a calibration
 pub calibration_whole : (t : CalibrationReading) → good_calibration t ≡ true → SameCall (calibrate_reading t) (calibrate (calibration_at t))
 calibration_whole t good =
-    same (λ p. ap (λ (b : Bool). calibration_rules_with b (trigger_for (at p probes t.probe) (calibration_at t)) (calibration_at t)) good) (λ p. refl)
-    (λ p. refl) (λ p. refl)
+    same (λ p. ap (λ (b : Bool). calibration_rules_with b (trigger_for (at p probes t.probe) (calibration_at t)) (calibration_at t)) good) (λ p. refl) (λ p. refl) (λ p. refl)
 
 -- ---- where a used float is not good: 2 where it is 2 with any whole positions, else 13
 later : (positions limits : Bool) → eqb (cond positions (cond limits 0 4) 3) 2 ≡ false

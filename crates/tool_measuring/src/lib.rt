@@ -14,7 +14,7 @@ ghost use Rattle.measuring.specs.Reply.{tool, measured_as, measured_on};
 use area::{AREA, MEANS, TOOLS, WRONG_AREA};
 use evaluation::tool_evaluation;
 use found_tests::tool_tests;
-use kind_numbers::kind_of;
+use kinds::kind_of;
 use layout::put_record;
 use measuring::{not_answered, refused};
 use package::arguments::ToolMeasurement;

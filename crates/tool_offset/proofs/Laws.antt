@@ -41,7 +41,7 @@ correction_size n Five next d h k = k
 -- the parts that the code finds, of its kind k
 module _ (r : ToolRecords) (a : ToolMeasurement) {k : Kind} (kind : k ≡ tool_kind_of a) where
   pub found_is : {calibrated : Bool} {sizes : Sizes} {d wear : ℤ} {decision : Decision} → calibrated ≡ calibrated_ok r.probe.status k a.probing
-      → sizes ≡ sizes_of r.probe k a.probing a.raws r.ev → d ≡ difference sizes.held r.ev
+      → sizes ≡ sizes_of r.probe k a.probing a.raws → d ≡ difference sizes.held r.ev
       → decision ≡ decided a.limits (named a) r.mean d (weight a)
       → wear ≡ wear_on (on_length k a.probing.axis) r.wear +ℤ factor k a.probing.direction *ℤ decision.correction
       → record { calibrated = calibrated; sizes = sizes; ev = r.ev; deviation = d; decision = decision; wear = wear } ≡ tool_found r a

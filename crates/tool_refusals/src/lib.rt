@@ -6,7 +6,7 @@ ghost use Rattle.rules.specs.Tool.{tool_kind_of, tool_numbers, tool_arguments};
 use kind_tests::{numbers_ok, positions_ok};
 use package::arguments::ToolMeasurement;
 use package::found::Kind;
-use package::limits::{TOOL_COUNT, TOOL_KIND_GREATEST, VALUE_COUNT, WEIGHT_LIMIT};
+use package::limits::{TOOL_COUNT, VALUE_COUNT, WEIGHT_LIMIT};
 use package::refusals::{DONE, NO_SUCH_NUMBER, OUTSIDE_RANGE, WRONG_LIMITS};
 use signed::in_range;
 use tolerance::limits_ok;
@@ -17,7 +17,7 @@ fn tool_numbers_ok(k: Kind, a: ToolMeasurement) -> bool
 {
     let probing = a.probing;
     let stores = in_range(a.tool, 1, TOOL_COUNT);
-    in_range(probing.kind, 0, TOOL_KIND_GREATEST)
+    in_range(probing.kind, 0, 4)
         & numbers_ok(k, probing)
         & stores
         & in_range(a.ev, 0, VALUE_COUNT)

@@ -1,18 +1,17 @@
 // What the calls answer, row by row. Rows stand in the files of data/, each under the 64 KiB that one read takes, so a file a topic: setting and
-// calibrating, measuring, series of parts, limits, what these leave, float reports, pockets and bosses, oval bores, and jobs. A row gives a line, and the line
-// that is expected is written from the papers.
+// calibrating, measuring, series of parts, limits, what these leave, and float reports. A row gives a line, and the line that is expected is written from
+// the papers.
 //
 // A row is a call as a job writes it, or a word and its numbers, each within i64:
 //   E,ev,value: refusal EV v
 //   W,tool,radius,length: refusal radius w length w
 //   O,offset,v1,v2,v3: refusal axes v v v
 //   C,probe,axis,direction,setpoint,raw,TZL,TSA: refusal trigger t bits b count n
-//   T,<fields>: refusal branch verdict MV m wear radius length OVR place=v .. OVI place=v ..     the numbers of the array that are not 0
-//   Z,<fields>: refusal branch verdict axes v v v OVR place=v .. OVI place=v ..     of T and Z as many fields as the row has are lent
+//   T,<21 fields>: refusal branch verdict MV m wear radius length OVR place=v .. OVI place=v ..     the numbers of the array that are not 0
+//   Z,<13 fields>: refusal branch verdict axes v v v OVR place=v .. OVI place=v ..
 //   status,probe: refusal bits b count n
 //   load,<bytes>: refusal EV first last MV first last
 //   save,length: refusal bytes b b ..       the whole buffer in hexadecimal; each byte was 5a before the call
-//   job,length,<bytes>: refusal length n bytes b b ..       a job lent an output of this length, which is shown as the buffer of a save
 //   memory, wears, pairs, offset,n and probe,n: a store or a record, with no refusal; wears has the tools with a wear that is not 0, pairs all
 //   fresh, and number,index,value, which sets a number of the area, so that it may be what no call leaves
 // A call that names no record shows none. What cannot be read shows ?. Before a row, `.` shows its refusal alone, `-` nothing, `+` only the refusal,
@@ -44,9 +43,6 @@ fn main() {
     file(b"limits.txt");
     file(b"further.txt");
     file(b"reports.txt");
-    file(b"rectangles.txt");
-    file(b"bores.txt");
-    file(b"jobs.txt");
 }
 
 fn file(path: &[u8]) {

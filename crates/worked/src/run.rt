@@ -44,9 +44,6 @@ pub fn run(area: &mut [i32], mark: u8, title: &[u8], word: &[u8], f: Fields) {
     if same(word, b"load") {
         return load(area, mark, f);
     }
-    if same(word, b"job") {
-        return job(area, mark, f);
-    }
     if is(word, b"C", f.count, 7) {
         return calibration(area, mark, title, f);
     }
@@ -233,33 +230,6 @@ fn saved(area: &[i32], mark: u8, buffer: &mut [u8]) {
     if answered(mark, boundary::mezhtolik_save(area, buffer)) {
         text(b" bytes");
         print::hexadecimal(buffer);
-    }
-}
-
-// The first field is the length of the output, the others are the job's bytes.
-fn job(area: &mut [i32], mark: u8, f: Fields) {
-    let bytes = f.bytes;
-    let length = f.sizes[0];
-    let mut output = [FILL; BUFFER];
-    if length <= BUFFER {
-        ran(
-            area,
-            mark,
-            behind(first_bytes(&bytes, f.count), 0),
-            &mut output[0..length],
-        );
-    } else {
-        unread();
-    }
-}
-
-fn ran(area: &mut [i32], mark: u8, job: &[u8], output: &mut [u8]) {
-    let r = boundary::mezhtolik_run_job(area, job, output);
-    if answered(mark, r.refusal) {
-        text(b" length ");
-        print::unsigned(r.length as u64);
-        text(b" bytes");
-        print::hexadecimal(output);
     }
 }
 

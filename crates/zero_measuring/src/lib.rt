@@ -13,7 +13,6 @@ ghost use Rattle.measuring.specs.Reply.{zero, measured_as, measured_on};
 
 use area::{AREA, OFFSETS, WRONG_AREA};
 use evaluation::zero_evaluation;
-use kind_numbers::zero_kind_of;
 use layout::put_record;
 use measuring::{not_answered, refused};
 use package::arguments::ZeroMeasurement;
@@ -25,7 +24,7 @@ use record_refusals::records_refusal;
 use result_numbers::put_zero_numbers;
 use sizes::sizes_of;
 use zero_offset::{offset_left, zero_tests};
-use zero_refusals::zero_refusal;
+use zero_refusals::{zero_kind_of, zero_refusal};
 
 // Writes the zero offset that a measurement leaves.
 fn put_zero(area: &mut [i32], a: ZeroMeasurement, o: Offset)
@@ -59,7 +58,7 @@ pub fn evaluate_zero(
     }
     let r = zero_records(&area[..], a);
     let x = r.probe;
-    let s = sizes_of(x, k, probing, raws, 0);
+    let s = sizes_of(x, k, probing, raws);
     let refusal = records_refusal(zero_tests(r, k, a, s));
     if refusal != DONE {
         return refused(refusal, results, place);

@@ -1,5 +1,4 @@
-//! What is timed: parts of kinds 0 to 4 that end in every branch. Rectangles are
-//! not among them, so that a row stays comparable with what it was.
+//! What is timed: parts of all kinds that end in every branch.
 
 use reference::{
     Calibration, Feature, Package, Reading, Report, Tolerance, ToolMeasurement, ZeroMeasurement,
@@ -84,7 +83,6 @@ fn part(kind: i64, turn: i64, deviation: i64) -> Feature {
         setpoint,
         centre: [c1, c2],
         raws: raws.map(Reading::Whole),
-        ordinate: 0,
     }
 }
 

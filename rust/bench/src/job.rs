@@ -123,9 +123,7 @@ mod tests {
         let summary = |text: &str| summary(text.as_bytes());
         let counted = "3 lines, 20 bytes, 2 lines refused".to_owned();
         assert_eq!(summary("E,1,2\nE,1,02\nE,21,2\n"), Ok(counted));
-        let none = "0 lines, 0 bytes, 0 lines refused".to_owned();
-        assert_eq!(summary(""), Ok(none));
-        assert!(summary("E,1,2").is_err_and(|why| why.starts_with("refused: job over")));
+        assert_eq!(summary(""), Err("refused: job is empty".to_owned()));
     }
 
     /// The measurements of both jobs, and the answers of one of them.

@@ -35,8 +35,8 @@ impl Sink for Checksum {
 }
 
 /// "E,ev,value; W,tool,radius,length; O,offset,v1,v2,v3; C,probe,..": how many
-/// fields a letter has, 0 where it opens no line; T and Z have one more for a
-/// rectangle. G, which has T's fields, is read apart.
+/// fields a letter has, 0 where it opens no line. G, which has T's fields, is read
+/// apart.
 const FIELDS: [u8; 256] = {
     let mut fields = [0; 256];
     fields[b'E' as usize] = 2;
@@ -48,15 +48,8 @@ const FIELDS: [u8; 256] = {
     fields
 };
 
-/// How many fields a G line has, one more for a rectangle.
+/// How many fields a G line has.
 const FLOAT_FIELDS: usize = 21;
-
-/// Whether a line that measures this kind has "a further last field for the
-/// ordinate width": "the kind alone decides this".
-#[inline(always)]
-fn has_further(kind: i32) -> bool {
-    matches!(kind, 5 | 6 | 105 | 106)
-}
 
 /// The value of a hexadecimal digit, in lower case; [`NO_DIGIT`] of another byte.
 const HEXADECIMAL: [u8; 256] = {
@@ -170,17 +163,15 @@ fn any_field(rest: &[u8]) -> Option<Field> {
 #[inline(always)]
 fn float_line<'a>(text: &[u8], fields: &'a [u8], sink: &mut impl Sink) -> Option<&'a [u8]> {
     let mut rest = fields;
-    let (mut place, mut count) = (0, FLOAT_FIELDS);
-    while place < count {
+    for place in 0..FLOAT_FIELDS {
         let field = match RAWS.contains(&place) {
             // never the last field, so that a comma comes behind it
             true => bits(rest.first_chunk()?)?,
             false => any_field(rest)?,
         };
         sink.number(field.number);
-        count += usize::from(place == 0 && has_further(field.number));
-        place += 1;
-        if field.end != if place == count { b'\n' } else { b',' } {
+        let last = place + 1 == FLOAT_FIELDS;
+        if field.end != if last { b'\n' } else { b',' } {
             return None;
         }
         rest = rest.get(field.length + 1..)?;
@@ -203,10 +194,9 @@ fn line<'a>(text: &'a [u8], sink: &mut impl Sink) -> Option<&'a [u8]> {
     if missing == 0 {
         return None;
     }
-    let mut field = any_field(fields)?;
-    missing += u8::from(matches!(letter, b'T' | b'Z') && has_further(field.number));
     let mut rest = fields;
     loop {
+        let field = any_field(rest)?;
         sink.number(field.number);
         missing = missing.wrapping_sub(1);
         rest = rest.get(field.length + 1..)?;
@@ -215,7 +205,6 @@ fn line<'a>(text: &'a [u8], sink: &mut impl Sink) -> Option<&'a [u8]> {
             let whole = field.end == b'\n' && missing == 0 && length <= LINE;
             return whole.then_some(rest);
         }
-        field = any_field(rest)?;
     }
 }
 
@@ -323,17 +312,16 @@ mod tests {
     /// Else the compiler could leave out the reading.
     #[test]
     fn the_checksum_depends_on_every_number_and_line() {
-        let lines = [('T', 0, 21), ('G', 0, 21), ('T', 5, 22), ('G', 105, 22)];
-        for (letter, kind, count) in lines {
-            let fields: Vec<i64> = [kind].into_iter().chain(1..count).collect();
-            let text = |fields: &[i64], end: &str| write_line(letter, fields) + "\n" + end;
+        for letter in ['T', 'G'] {
+            let fields: [i64; 21] = std::array::from_fn(|place| place as i64);
+            let text = |fields: &[i64; 21], end: &str| write_line(letter, fields) + "\n" + end;
             let sum = |text: String| checksum(text.as_bytes());
             let plain = sum(text(&fields, "E,1,2\n"));
-            for place in 0..fields.len() {
-                let mut changed = fields.clone();
+            for place in 0..21 {
+                let mut changed = fields;
                 changed[place] += 1;
                 let changed = sum(text(&changed, "E,1,2\n"));
-                assert_ne!(changed, plain, "{letter}, kind {kind}, field {place}");
+                assert_ne!(changed, plain, "{letter}, field {place}");
             }
             for end in ["", "E,1,3\n", "E,1,02\n", "E,1,2\nE,1,2\n"] {
                 assert_ne!(sum(text(&fields, end)), plain, "{end}");
@@ -364,30 +352,6 @@ mod tests {
         });
         let counts = compare_all(texts);
         assert!(counts.iter().all(|&count| count > 60), "{counts:?}");
-    }
-
-    /// Each kind near those of rectangles, with as many fields as it has, one less
-    /// and one more, under each letter.
-    #[test]
-    fn fields_of_kinds() {
-        let kinds = [-5, 4, 5, 6, 7, 104, 105, 106, 107, 205];
-        let letters = [
-            ('T', 21),
-            ('G', 21),
-            ('Z', 13),
-            ('C', 7),
-            ('W', 3),
-            ('E', 2),
-        ];
-        let texts = kinds.into_iter().flat_map(|kind| {
-            letters.into_iter().flat_map(move |(letter, count)| {
-                [count - 1, count, count + 1, count + 2].map(|count| {
-                    let fields: Vec<i64> = [kind].into_iter().chain(1..count).collect();
-                    (write_line(letter, &fields) + "\n").into_bytes()
-                })
-            })
-        });
-        assert_eq!(compare_all(texts), [60, 180]);
     }
 
     /// Each form of a number, in the middle and at the end of a line, with and

@@ -1,10 +1,9 @@
 //! The letters of job lines in words: a row for each, with those of its fields that say what the line is about.
 
-use mezhtolik::kind::is_rectangle;
 use reference::line::read_bits;
 
 use crate::floats;
-use crate::units::{millimetres, Unit};
+use crate::units::Unit;
 use crate::words;
 
 /// How a field is said.
@@ -20,8 +19,6 @@ enum Field {
     Direction,
     /// A raw of this number that a float box read, where the line's kind uses it.
     Float(usize),
-    /// The setpoint of the width on this axis, where the line's kind has two.
-    Width(&'static str),
 }
 
 /// One letter. Fields are counted from 0, behind the letter.
@@ -73,8 +70,6 @@ const LETTERS: [Letter; 7] = [
         words: "measures with tool offset",
         fields: &[
             (0, Field::Kind),
-            (4, Field::Width(words::AXES[0])),
-            (21, Field::Width(words::AXES[1])),
             (1, Field::Number("probe")),
             (11, Field::Number("tool")),
             (12, Field::Optional("EV")),
@@ -86,8 +81,6 @@ const LETTERS: [Letter; 7] = [
         words: "measures with zero offset",
         fields: &[
             (0, Field::Kind),
-            (4, Field::Width(words::AXES[0])),
-            (13, Field::Width(words::AXES[1])),
             (1, Field::Number("probe")),
             (11, Field::Number("offset")),
         ],
@@ -97,8 +90,6 @@ const LETTERS: [Letter; 7] = [
         words: "measures with tool offset what a float box read",
         fields: &[
             (0, Field::Kind),
-            (4, Field::Width(words::AXES[0])),
-            (21, Field::Width(words::AXES[1])),
             (1, Field::Number("probe")),
             (7, Field::Float(1)),
             (8, Field::Float(2)),
@@ -122,15 +113,15 @@ fn word(words: &[&'static str], first: i32, number: i32) -> Option<&'static str>
 }
 
 /// A raw of a line, its bits in millimetres and units; none where the kind does not use it.
-fn float(raw: usize, kind: Option<i64>, bits: &str) -> Option<String> {
-    let used = raw <= words::raws(kind?);
+fn float(raw: usize, kind: &str, bits: &str) -> Option<String> {
+    let used = raw <= words::raws(kind.parse().ok()?);
     let bits = read_bits(bits.as_bytes()).filter(|_| used)?;
     Some(format!("r{raw} {}", floats::said(bits)))
 }
 
 impl Field {
     /// What a field of a line of this kind says, if it says something.
-    fn said(&self, text: &str, kind: Option<i64>) -> Option<String> {
+    fn said(&self, text: &str, kind: &str) -> Option<String> {
         let number = || text.parse().ok();
         match self {
             Field::Number(name) => number().map(|number: i32| format!("{name} {number}")),
@@ -147,22 +138,12 @@ impl Field {
                 number().map(|n| named(word(&words::DIRECTIONS, 0, n), "direction", n))
             }
             Field::Float(raw) => float(*raw, kind, text),
-            Field::Width(axis) => number()
-                .filter(|_| kind.is_some_and(is_rectangle))
-                .map(|width: i32| format!("{axis} {} mm", millimetres(width.into()))),
         }
     }
 }
 
-/// The kind of a line that measures: its first field.
-pub fn kind(line: &[u8]) -> Option<i64> {
-    let field = line.split(|&byte| byte == b',').nth(1)?;
-    std::str::from_utf8(field).ok()?.parse().ok()
-}
-
 /// What a line of a job is about. A malformed line has its letter alone, if that is one.
 pub fn line(text: &[u8], malformed: bool) -> String {
-    let kind = kind(text);
     let text = String::from_utf8_lossy(text);
     let mut parts = text.split(',');
     let first = parts.next().unwrap_or_default();
@@ -175,6 +156,7 @@ pub fn line(text: &[u8], malformed: bool) -> String {
         return named;
     }
     let given: Vec<&str> = parts.collect();
+    let kind = given.first().copied().unwrap_or_default();
     let fields = letter
         .fields
         .iter()
@@ -209,19 +191,5 @@ mod tests {
             format!("hole, probe 1, {low}, {high}, r3 no number, r4 1 mm (10000 u), {rest}")
         );
         assert_eq!(said("9", raws), format!("kind 9, probe 1, {rest}"));
-    }
-
-    #[test]
-    fn both_setpoints_of_a_rectangle_are_said() {
-        for (letter, kind, name) in [('T', 5, "pocket"), ('T', 106, "boss"), ('G', 6, "boss")] {
-            let raws = if letter == 'G' { "00000000" } else { "0" };
-            let text = format!("{letter},{kind},1,0,0,400000,0,0,{raws},{raws},{raws},{raws},3,0,0,1,0,0,0,0,0,0,250125");
-            let said = line(text.as_bytes(), false);
-            let widths = format!(": {name}, abscissa 40 mm, ordinate 25.0125 mm, probe 1, ");
-            assert!(said.contains(&widths), "{said}");
-        }
-        let zero = line(b"Z,105,1,0,0,400000,0,0,0,0,0,0,2,0,1", false);
-        let words = "pocket, abscissa 40 mm, ordinate 0.0001 mm, probe 1, offset 2";
-        assert_eq!(zero, format!("Z, measures with zero offset: {words}"));
     }
 }

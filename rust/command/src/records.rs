@@ -112,8 +112,8 @@ impl Direction {
     }
 
     fn trigger(&self, package: &Package) -> Option<i32> {
-        let place = 2 * self.axis - usize::from(self.direction == NEGATIVE);
-        let calibrated = package.status(self.probe)? >> (place - 1) & 1 == 1;
+        let bit = 2 * (self.axis - 1) + usize::from(self.direction == POSITIVE);
+        let calibrated = package.status(self.probe)? >> bit & 1 == 1;
         package
             .trigger(self.probe, self.axis, self.direction)
             .filter(|_| calibrated)

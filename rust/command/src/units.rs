@@ -35,22 +35,6 @@ impl Unit {
     }
 }
 
-/// The units of a millimetre, and the parts of a micrometre that a length of a picture counts.
-const PARTS: i64 = 10_000;
-
-/// Ten-thousandths as a decimal number, without needless zeros at the end.
-pub fn decimal(ten_thousandths: i64) -> String {
-    let sign = if ten_thousandths < 0 { "-" } else { "" };
-    let (whole, rest) = (ten_thousandths.abs() / PARTS, ten_thousandths.abs() % PARTS);
-    let text = format!("{sign}{whole}.{rest:04}");
-    text.trim_end_matches('0').trim_end_matches('.').to_owned()
-}
-
-/// Units in millimetres, as setpoints are written.
-pub fn millimetres(units: i64) -> String {
-    decimal(units)
-}
-
 #[cfg(test)]
 mod tests {
     use super::*;

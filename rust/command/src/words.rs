@@ -10,14 +10,12 @@ pub const DIRECTIONS: [&str; 2] = ["positive", "negative"];
 /// A kind with tool offset, with zero offset 100 more: its number, its name, and how many raws it uses.
 type Kind = (i64, &'static str, usize);
 
-const KINDS: [Kind; 7] = [
+const KINDS: [Kind; 5] = [
     (kind::PLANE, "plane", 1),
     (kind::HOLE, "hole", 4),
     (kind::SHAFT, "shaft", 4),
     (kind::GROOVE, "groove", 2),
     (kind::WEB, "web", 2),
-    (kind::POCKET, "pocket", 4),
-    (kind::BOSS, "boss", 4),
 ];
 
 fn row(number: i64) -> Option<&'static Kind> {

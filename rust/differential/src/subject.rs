@@ -22,7 +22,6 @@ fn probing(feature: &reference::Feature) -> Probing {
         setpoint: feature.setpoint,
         set_centre: feature.centre,
         raws: feature.raws.each_ref().map(reading),
-        ordinate: feature.ordinate,
     }
 }
 

@@ -3,9 +3,7 @@
 use std::collections::BTreeMap;
 use std::fmt;
 
-use mezhtolik::kind::is_rectangle;
-use reference::line::read_number;
-use reference::{Answer, Call, Feature, Reading};
+use reference::{Answer, Call, Reading};
 
 /// Counts of what was compared.
 #[derive(Clone, Debug, Default)]
@@ -22,71 +20,21 @@ pub struct Tally {
     calls: BTreeMap<&'static str, u64>,
     refusals: BTreeMap<u64, u64>,
     branches: BTreeMap<u64, u64>,
-    /// Jobs of no bytes, with an output and with one of no bytes.
-    empty_jobs: [u64; 2],
     job_lines: u64,
     line_refusals: BTreeMap<u64, u64>,
     line_branches: BTreeMap<u64, u64>,
     /// Lines that begin with G, by their refusal.
     float_lines: BTreeMap<u64, u64>,
-    /// Calls that measure a rectangle, by refusal and by branch, and lines that
-    /// do, by refusal.
-    rectangles: Rectangles,
-    rectangle_branches: Rectangles,
-    rectangle_lines: Rectangles,
-}
-
-/// Measurements of kinds 5, 6, 105 and 106, each kind by a number.
-#[derive(Clone, Debug, Default)]
-struct Rectangles(BTreeMap<i64, BTreeMap<u64, u64>>);
-
-impl Rectangles {
-    /// Counts a measurement of a kind under a number, if it is a rectangle.
-    fn add(&mut self, kind: Option<i64>, number: u64) {
-        if let Some(kind) = kind.filter(|&kind| is_rectangle(kind)) {
-            let counts = self.0.entry(kind).or_default();
-            *counts.entry(number).or_default() += 1;
-        }
-    }
-
-    fn count(&self, kind: i64, number: u64) -> u64 {
-        let counts = self.0.get(&kind);
-        counts.map_or(0, |counts| counts.get(&number).copied().unwrap_or(0))
-    }
-}
-
-impl fmt::Display for Rectangles {
-    fn fmt(&self, f: &mut fmt::Formatter<'_>) -> fmt::Result {
-        let kinds = self.0.iter();
-        let kinds: Vec<String> = kinds
-            .map(|(kind, numbers)| format!("kind {kind} ({})", counts(numbers)))
-            .collect();
-        f.write_str(&kinds.join(", "))
-    }
-}
-
-/// What a call measures.
-fn feature(call: &Call) -> Option<&Feature> {
-    match call {
-        Call::MeasureTool { measurement, .. } => Some(&measurement.feature),
-        Call::MeasureZero { measurement, .. } => Some(&measurement.feature),
-        _ => None,
-    }
 }
 
 /// The raws of a call.
 fn raws(call: &Call) -> &[Reading] {
     match call {
         Call::Calibrate(calibration) => std::slice::from_ref(&calibration.raw),
-        _ => feature(call).map_or(&[], |feature| &feature.raws),
+        Call::MeasureTool { measurement, .. } => &measurement.feature.raws,
+        Call::MeasureZero { measurement, .. } => &measurement.feature.raws,
+        _ => &[],
     }
-}
-
-/// The kind that a line measures, also where it is malformed behind it.
-fn kind_of_line(line: &[u8]) -> Option<i64> {
-    let mut fields = line.split(|&byte| byte == b',');
-    let measures = matches!(fields.next()?, b"T" | b"Z" | b"G");
-    fields.next().filter(|_| measures).and_then(read_number)
 }
 
 fn name(call: &Call) -> &'static str {
@@ -111,14 +59,10 @@ impl Tally {
         if answer.branch > 0 {
             *self.branches.entry(answer.branch.into()).or_default() += 1;
         }
-        let kind = feature(call).map(|feature| feature.kind);
-        self.rectangles.add(kind, answer.refusal.into());
-        self.rectangle_branches.add(kind, answer.branch.into());
         let reports = raws(call).iter().filter(|raw| is_report(raw)).count();
         self.reports += reports as u64;
         self.whole += (raws(call).len() - reports) as u64;
-        if let Call::RunJob { text, buffer } = call {
-            self.empty_jobs[usize::from(buffer.is_empty())] += u64::from(text.is_empty());
+        if let Call::RunJob { text, .. } = call {
             let lines = |bytes| <[u8]>::split_inclusive(bytes, |&byte| byte == b'\n');
             let answers = lines(&answer.buffer[..answer.length]);
             lines(text)
@@ -143,7 +87,6 @@ impl Tally {
         if line.starts_with(b"G,") {
             *self.float_lines.entry(field(1)).or_default() += 1;
         }
-        self.rectangle_lines.add(kind_of_line(line), field(1));
     }
 
     /// All calls, jobs among them.
@@ -156,11 +99,6 @@ impl Tally {
         self.refusals.keys().copied().collect()
     }
 
-    /// How many jobs had no bytes, with an output and with one of no bytes.
-    pub fn empty_jobs(&self) -> [u64; 2] {
-        self.empty_jobs
-    }
-
     /// How many raws of the calls were whole, and how many were reports.
     pub fn readings(&self) -> [u64; 2] {
         [self.whole, self.reports]
@@ -169,23 +107,6 @@ impl Tally {
     /// How many lines that begin with G were refused by this number, 0 for done.
     pub fn float_lines(&self, refusal: u64) -> u64 {
         self.float_lines.get(&refusal).copied().unwrap_or(0)
-    }
-
-    /// How many calls that measure this kind of rectangle were refused by this
-    /// number, 0 for done.
-    pub fn rectangles(&self, kind: i64, refusal: u64) -> u64 {
-        self.rectangles.count(kind, refusal)
-    }
-
-    /// How many of them ended in this branch.
-    pub fn rectangle_branches(&self, kind: i64, branch: u64) -> u64 {
-        self.rectangle_branches.count(kind, branch)
-    }
-
-    /// How many lines of this kind of rectangle were refused by this number, 0
-    /// for done.
-    pub fn rectangle_lines(&self, kind: i64, refusal: u64) -> u64 {
-        self.rectangle_lines.count(kind, refusal)
     }
 
     /// The numbers of branches that calls answered.
@@ -210,8 +131,7 @@ impl fmt::Display for Tally {
     fn fmt(&self, f: &mut fmt::Formatter<'_>) -> fmt::Result {
         write!(
             f,
-            "{} calls in {} lists, {} from areas of any content ({}); raws: {} whole, {} reports; by refusal {}; by branch {}; \
-             rectangles by refusal {}",
+            "{} calls in {} lists, {} from areas of any content ({}); raws: {} whole, {} reports; by refusal {}; by branch {}",
             self.calls(),
             self.lists,
             self.odd_lists,
@@ -219,24 +139,21 @@ impl fmt::Display for Tally {
             self.whole,
             self.reports,
             counts(&self.refusals),
-            counts(&self.branches),
-            self.rectangles
+            counts(&self.branches)
         )?;
         if self.job_lines > 0 {
             write!(
                 f,
-                "; {} lines of jobs, by refusal {}; by branch {}; of these G, by refusal {}; rectangles by refusal {}",
+                "; {} lines of jobs, by refusal {}; by branch {}; of these G, by refusal {}",
                 self.job_lines,
                 counts(&self.line_refusals),
                 counts(&self.line_branches),
-                counts(&self.float_lines),
-                self.rectangle_lines
+                counts(&self.float_lines)
             )?;
         }
-        let [with_output, without] = self.empty_jobs;
         write!(
             f,
-            "; {with_output} empty jobs and {without} without an output; {} with wrong lengths, {} lent once more as readings",
+            "; {} with wrong lengths, {} lent once more as readings",
             self.wrong_lengths, self.lent_otherwise
         )
     }

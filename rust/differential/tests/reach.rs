@@ -11,13 +11,9 @@ fn every_refusal_and_branch_is_met() {
         ..Plan::default()
     };
     let tally = plan.run().unwrap_or_else(|found| panic!("{found}"));
-    let refusals = [0, 1, 2, 3, 4, 5, 6, 7, 8, 9, 12, 13];
+    let refusals = [0, 1, 2, 3, 4, 5, 6, 7, 8, 9, 11, 12, 13];
     assert_eq!(tally.refusals(), refusals);
     assert_eq!(tally.branches(), [1, 2, 3, 4, 5, 6]);
-    assert!(
-        tally.empty_jobs().iter().all(|&count| count > 10),
-        "{tally}"
-    );
     assert!(tally.wrong_lengths > 5_000);
     assert!(tally.lent_otherwise > 5_000);
     assert!(tally.readings().iter().all(|&count| count > 50_000));
@@ -34,55 +30,6 @@ fn jobs_have_float_lines_of_each_sort() {
     let tally = plan.run().unwrap_or_else(|found| panic!("{found}"));
     for (refusal, least) in [(0, 500), (2, 500), (3, 40), (10, 200), (13, 100)] {
         assert!(tally.float_lines(refusal) > least, "{refusal}: {tally}");
-    }
-    assert!(tally.empty_jobs()[1] > 0, "{tally}");
-}
-
-/// A kind of rectangle, with the refusals and the branches that its measurements
-/// can have: 8 with tool offset alone.
-const RECTANGLES: [(i64, &[u64], &[u64]); 4] = [
-    (5, &[0, 1, 2, 3, 4, 5, 6, 7, 8, 9, 13], &[1, 2, 3, 4, 5]),
-    (6, &[0, 1, 2, 3, 4, 5, 6, 7, 8, 9, 13], &[1, 2, 3, 4, 5]),
-    (105, &[0, 1, 2, 3, 4, 5, 6, 7, 9, 13], &[6]),
-    (106, &[0, 1, 2, 3, 4, 5, 6, 7, 9, 13], &[6]),
-];
-
-#[test]
-fn rectangles_of_each_kind_meet_every_refusal_and_branch() {
-    let plan = Plan {
-        calls: 120_000,
-        jobs: 0,
-        seed: 5,
-        ..Plan::default()
-    };
-    let tally = plan.run().unwrap_or_else(|found| panic!("{found}"));
-    for (kind, refusals, branches) in RECTANGLES {
-        for refusal in refusals {
-            let count = tally.rectangles(kind, *refusal);
-            assert!(count > 40, "kind {kind}, refusal {refusal}: {tally}");
-        }
-        for branch in branches {
-            let count = tally.rectangle_branches(kind, *branch);
-            assert!(count > 100, "kind {kind}, branch {branch}: {tally}");
-        }
-    }
-}
-
-/// A line has room for its result, and a Z line whole raws alone.
-#[test]
-fn lines_of_rectangles_meet_every_refusal() {
-    let plan = Plan {
-        calls: 0,
-        jobs: 3_000,
-        ..Plan::default()
-    };
-    let tally = plan.run().unwrap_or_else(|found| panic!("{found}"));
-    for (kind, refusals, _) in RECTANGLES {
-        let of_line = |refusal: &&u64| **refusal != 1 && (**refusal != 13 || kind < 100);
-        for refusal in refusals.iter().filter(of_line).chain(&[10]) {
-            let count = tally.rectangle_lines(kind, *refusal);
-            assert!(count > 20, "kind {kind}, refusal {refusal}: {tally}");
-        }
     }
 }
 

@@ -1,16 +1,13 @@
 //! What the calls are given. Any number is allowed everywhere: one that does
 //! not fit is refused.
 
-use core::ops::{Deref, DerefMut};
-
 use crate::reading::{Reading, REPORTS};
 
 /// The numbers of the kinds, [`Probing::kind`].
 pub mod kind {
     /// One surface.
     pub const PLANE: i64 = 0;
-    /// A diameter touched from inside: half the sum of both widths, to the nearest
-    /// unit, halves away from zero.
+    /// A diameter touched from inside.
     pub const HOLE: i64 = 1;
     /// A diameter touched from outside.
     pub const SHAFT: i64 = 2;
@@ -18,22 +15,8 @@ pub mod kind {
     pub const GROOVE: i64 = 3;
     /// A width touched from outside.
     pub const WEB: i64 = 4;
-    /// A rectangle touched from inside, with a setpoint for each width.
-    pub const POCKET: i64 = 5;
-    /// A rectangle touched from outside.
-    pub const BOSS: i64 = 6;
     /// What a kind has more with zero offset.
     pub const ZERO_OFFSET: i64 = 100;
-
-    const ZERO_POCKET: i64 = ZERO_OFFSET + POCKET;
-    const ZERO_BOSS: i64 = ZERO_OFFSET + BOSS;
-
-    /// Whether a kind is a pocket or boss, with tool or with zero offset: it
-    /// alone decides whether a measurement has a further number.
-    #[inline]
-    pub const fn is_rectangle(kind: i64) -> bool {
-        matches!(kind, POCKET | BOSS | ZERO_POCKET | ZERO_BOSS)
-    }
 }
 
 /// The positive direction, in which the axis rises.
@@ -45,48 +28,6 @@ pub const NEGATIVE: i64 = 1;
 pub const TOOL_ARGUMENTS: usize = 21;
 /// How many arguments a measurement with zero offset has.
 pub const ZERO_ARGUMENTS: usize = 13;
-/// How many it has with tool offset where its kind is a pocket or boss.
-pub const TOOL_RECTANGLE_ARGUMENTS: usize = 22;
-/// How many it has with zero offset where its kind is a pocket or boss.
-pub const ZERO_RECTANGLE_ARGUMENTS: usize = 14;
-
-/// The numbers of a measurement in the order of its line: `MOST` of a pocket or
-/// boss, one less of every other kind.
-#[derive(Clone, Copy, Debug, PartialEq, Eq)]
-pub struct Numbers<const MOST: usize> {
-    numbers: [i64; MOST],
-    count: usize,
-}
-
-impl<const MOST: usize> Numbers<MOST> {
-    /// The first of them is the kind, the last is left out where the kind has it
-    /// not.
-    #[inline]
-    const fn of(numbers: [i64; MOST]) -> Self {
-        let count = if kind::is_rectangle(numbers[0]) {
-            MOST
-        } else {
-            MOST - 1
-        };
-        Numbers { numbers, count }
-    }
-}
-
-impl<const MOST: usize> Deref for Numbers<MOST> {
-    type Target = [i64];
-
-    #[inline]
-    fn deref(&self) -> &[i64] {
-        &self.numbers[..self.count]
-    }
-}
-
-impl<const MOST: usize> DerefMut for Numbers<MOST> {
-    #[inline]
-    fn deref_mut(&mut self) -> &mut [i64] {
-        &mut self.numbers[..self.count]
-    }
-}
 
 /// A calibration of one direction of a probe, as a `C` line; its raw may also be
 /// a report.
@@ -135,17 +76,14 @@ pub struct Probing {
     pub axis: i64,
     /// [`POSITIVE`] or [`NEGATIVE`], of a plane.
     pub direction: i64,
-    /// A plane's position within ±10,000,000 u, else a width 1..10,000,000 u; of
-    /// a pocket or boss the one on axis 1.
+    /// A plane's position within ±10,000,000 u, else a width 1..10,000,000 u.
     pub setpoint: i64,
     /// The set centre on axes 1 and 2, within ±10,000,000 u.
     pub set_centre: [i64; 2],
-    /// Where the probe triggered: plane one, groove and web low and high, the
-    /// other kinds abscissa low, high, ordinate low, high. Each by itself is whole
+    /// Where the probe triggered: plane one, groove and web low and high, hole
+    /// and shaft abscissa low, high, ordinate low, high. Each by itself is whole
     /// or a report.
     pub raws: [Reading; 4],
-    /// The setpoint of a pocket's or boss's width on axis 2, 1..10,000,000 u.
-    pub ordinate: i64,
 }
 
 impl Probing {
@@ -213,7 +151,7 @@ pub struct ToolMeasurement {
 impl ToolMeasurement {
     /// In the order of a `T` line; for a raw that is a report 0.
     #[inline]
-    pub const fn numbers(&self) -> Numbers<TOOL_RECTANGLE_ARGUMENTS> {
+    pub const fn numbers(&self) -> [i64; TOOL_ARGUMENTS] {
         let Probing {
             kind,
             probe,
@@ -221,7 +159,6 @@ impl ToolMeasurement {
             direction,
             setpoint,
             set_centre: [c1, c2],
-            ordinate,
             ..
         } = self.probing;
         let [r1, r2, r3, r4] = self.probing.whole_raws();
@@ -233,10 +170,10 @@ impl ToolMeasurement {
             tdif,
             tsa,
         } = self.limits;
-        Numbers::of([
+        [
             kind, probe, axis, direction, setpoint, c1, c2, r1, r2, r3, r4, self.tool, self.ev,
-            self.mv, self.k, tzl, tmv, tul, tll, tdif, tsa, ordinate,
-        ])
+            self.mv, self.k, tzl, tmv, tul, tll, tdif, tsa,
+        ]
     }
 }
 
@@ -254,7 +191,7 @@ pub struct ZeroMeasurement {
 impl ZeroMeasurement {
     /// In the order of a `Z` line; for a raw that is a report 0.
     #[inline]
-    pub const fn numbers(&self) -> Numbers<ZERO_RECTANGLE_ARGUMENTS> {
+    pub const fn numbers(&self) -> [i64; ZERO_ARGUMENTS] {
         let Probing {
             kind,
             probe,
@@ -262,11 +199,10 @@ impl ZeroMeasurement {
             direction,
             setpoint,
             set_centre: [c1, c2],
-            ordinate,
             ..
         } = self.probing;
         let [r1, r2, r3, r4] = self.probing.whole_raws();
-        Numbers::of([
+        [
             kind,
             probe,
             axis,
@@ -280,7 +216,6 @@ impl ZeroMeasurement {
             r4,
             self.offset,
             self.tsa,
-            ordinate,
-        ])
+        ]
     }
 }

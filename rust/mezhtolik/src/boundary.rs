@@ -236,8 +236,7 @@ fn measure(
     }
 }
 
-/// Measures with tool offset; the 21 arguments in the order of a T line, 22 of a
-/// pocket or boss.
+/// Measures with tool offset; the 21 arguments in the order of a T line.
 #[inline]
 pub fn measure_tool(
     area: &mut [i32],
@@ -248,8 +247,7 @@ pub fn measure_tool(
     measure(mezhtolik_measure_tool, area, arguments, results, place)
 }
 
-/// Measures with zero offset; the 13 arguments in the order of a Z line, 14 of a
-/// pocket or boss.
+/// Measures with zero offset; the 13 arguments in the order of a Z line.
 #[inline]
 pub fn measure_zero(
     area: &mut [i32],

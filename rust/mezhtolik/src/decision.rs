@@ -84,8 +84,8 @@ impl Decision {
 /// The directions of a probe that are calibrated.
 #[derive(Clone, Copy, Debug, Default, PartialEq, Eq)]
 pub struct ProbeStatus {
-    /// Bit place - 1 for each direction, whose place is twice the axis, less one
-    /// for the negative direction.
+    /// Bit place - 1 for each direction: axis 1 negative is place 1, positive
+    /// 2; axis 2: 3, 4; axis 3: 5, 6.
     pub bits: u8,
     /// How many there are.
     pub count: u32,

@@ -23,8 +23,8 @@ mod refusal;
 mod results;
 
 pub use arguments::{
-    kind, Calibration, Limits, Numbers, Probing, ToolMeasurement, ZeroMeasurement, NEGATIVE,
-    POSITIVE, TOOL_ARGUMENTS, TOOL_RECTANGLE_ARGUMENTS, ZERO_ARGUMENTS, ZERO_RECTANGLE_ARGUMENTS,
+    kind, Calibration, Limits, Probing, ToolMeasurement, ZeroMeasurement, NEGATIVE, POSITIVE,
+    TOOL_ARGUMENTS, ZERO_ARGUMENTS,
 };
 pub use decision::{Branch, Decision, ProbeStatus, Verdict};
 pub use package::{job_room, Package, AREA, BLOCK};

@@ -286,8 +286,7 @@ impl Package {
     /// Runs a job on the records that are there, writes the answer of each line
     /// to `output` and gives the length written; the bytes past it stay. A
     /// refused line has its number in its answer and the next line runs; a
-    /// refused job runs no line. [`job_room`] has the room that a job needs; one of
-    /// no bytes is a job of no lines and needs none.
+    /// refused job runs no line. [`job_room`] has the room that a job needs.
     ///
     /// ```
     /// use mezhtolik::{job_room, Package};

@@ -69,16 +69,14 @@ impl Package {
         Some([0, 1, 2].map(|axis| self.number(place + axis)))
     }
 
-    /// The trigger value of a probe (1..3) on an axis (1..3) in a direction, u. Its
-    /// place is twice the axis, less one for the negative direction.
+    /// The trigger value of a probe (1..3) on an axis (1..3) in a direction, u.
     pub fn trigger(&self, probe: usize, axis: usize, direction: i64) -> Option<i32> {
-        let less = match direction {
-            POSITIVE => 0,
-            NEGATIVE => 1,
+        let place = match direction {
+            NEGATIVE => 0,
+            POSITIVE => 1,
             _ => return None,
         };
-        let place = 2 * (index(axis, 3)? + 1) - less;
-        let place = PROBES + PROBE * index(probe, 3)? + place - 1;
+        let place = PROBES + PROBE * index(probe, 3)? + 2 * index(axis, 3)? + place;
         Some(self.number(place).clamp(-TRIGGER_LIMIT, TRIGGER_LIMIT))
     }
 

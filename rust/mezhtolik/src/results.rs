@@ -7,8 +7,6 @@ const OVI: usize = 32;
 
 /// The 42 numbers of a measurement, `_OVR[0..31]` and then `_OVI[0..9]`. What a
 /// kind has not is 0; a refused measurement has zeros save [`refusal`](Self::refusal).
-/// Of a pocket or boss OVR 0, 4, 8, 12 and 16 belong to the axis whose width
-/// deviates more, to axis 1 where both deviate alike.
 #[derive(Clone, Copy, Debug, PartialEq, Eq)]
 pub struct Results([i32; RESULTS]);
 

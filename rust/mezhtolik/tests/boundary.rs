@@ -1,10 +1,7 @@
 //! The calls on lent areas of a wrong length: 100, and everything is left.
 
 use mezhtolik::boundary::*;
-use mezhtolik::{
-    AREA, REPORTS, TOOL_ARGUMENTS, TOOL_RECTANGLE_ARGUMENTS, ZERO_ARGUMENTS,
-    ZERO_RECTANGLE_ARGUMENTS,
-};
+use mezhtolik::{AREA, REPORTS, TOOL_ARGUMENTS, ZERO_ARGUMENTS};
 
 const LENGTHS: [usize; 5] = [0, 1, AREA - 1, AREA + 1, 2 * AREA];
 
@@ -52,50 +49,32 @@ fn status() {
 /// What both measurements have in common.
 type Measure = fn(&mut [i32], &[i64], &mut [i32], usize) -> RawDecision;
 
-/// A kind, how many arguments it has with tool offset and with zero offset: it
-/// alone decides, in each call.
-const KINDS: [(i64, [usize; 2]); 8] = [
-    (1, [TOOL_ARGUMENTS, ZERO_ARGUMENTS]),
-    (104, [TOOL_ARGUMENTS, ZERO_ARGUMENTS]),
-    (7, [TOOL_ARGUMENTS, ZERO_ARGUMENTS]),
-    (i64::MIN, [TOOL_ARGUMENTS, ZERO_ARGUMENTS]),
-    (5, [TOOL_RECTANGLE_ARGUMENTS, ZERO_RECTANGLE_ARGUMENTS]),
-    (6, [TOOL_RECTANGLE_ARGUMENTS, ZERO_RECTANGLE_ARGUMENTS]),
-    (105, [TOOL_RECTANGLE_ARGUMENTS, ZERO_RECTANGLE_ARGUMENTS]),
-    (106, [TOOL_RECTANGLE_ARGUMENTS, ZERO_RECTANGLE_ARGUMENTS]),
-];
-
-/// So many numbers, the first of which is the kind.
-fn numbers_of(kind: i64, count: usize) -> Vec<i64> {
-    [kind].into_iter().chain([1; 30]).take(count).collect()
-}
-
 #[test]
 fn measurements() {
-    let both: [Measure; 2] = [measure_tool, measure_zero];
-    for (kind, arguments) in KINDS {
-        for (measure, arguments) in both.into_iter().zip(arguments) {
-            for count in [0, arguments - 1, arguments, arguments + 1] {
-                let (numbers, mut results) = (numbers_of(kind, count), [77; 42]);
-                refused(|area| {
-                    let mut results = results;
-                    let decision = measure(area, &numbers, &mut results, 0);
-                    assert_eq!(
-                        (decision.branch, decision.verdict, results),
-                        (0, 0, [77; 42])
-                    );
-                    decision.refusal
-                });
-                let mut area = [77; AREA];
-                let decision = measure(&mut area, &numbers, &mut results[..41], 0);
-                // arguments of the right number come to the next test, the room
-                let refusal = if count == arguments { 1 } else { 101 };
+    let both: [(Measure, usize); 2] = [
+        (measure_tool, TOOL_ARGUMENTS),
+        (measure_zero, ZERO_ARGUMENTS),
+    ];
+    for (measure, arguments) in both {
+        for count in [0, arguments - 1, arguments, arguments + 1] {
+            let mut results = [77; 42];
+            refused(|area| {
+                let mut results = results;
+                let decision = measure(area, &vec![1; count], &mut results, 0);
                 assert_eq!(
-                    (decision.refusal, area, results),
-                    (refusal, [77; AREA], [77; 42]),
-                    "kind {kind} with {count} numbers"
+                    (decision.branch, decision.verdict, results),
+                    (0, 0, [77; 42])
                 );
-            }
+                decision.refusal
+            });
+            let mut area = [77; AREA];
+            let decision = measure(&mut area, &vec![1; count], &mut results[..41], 0);
+            // arguments of the right number come to the next test, the room
+            let refusal = if count == arguments { 1 } else { 101 };
+            assert_eq!(
+                (decision.refusal, area, results),
+                (refusal, [77; AREA], [77; 42])
+            );
         }
     }
 }
@@ -103,15 +82,14 @@ fn measurements() {
 /// What both measurements with readings have in common.
 type MeasureReadings = fn(&mut [i32], &[i64], (&[f32], u32), &mut [i32], usize) -> RawDecision;
 
-const BOTH_READINGS: [MeasureReadings; 2] = [measure_tool_readings, measure_zero_readings];
+const BOTH_READINGS: [(MeasureReadings, usize); 2] = [
+    (measure_tool_readings, TOOL_ARGUMENTS),
+    (measure_zero_readings, ZERO_ARGUMENTS),
+];
 
 #[test]
 fn measurements_with_readings() {
-    let both = |(kind, arguments)| {
-        let calls = BOTH_READINGS.into_iter().zip::<[usize; 2]>(arguments);
-        calls.map(move |(measure, arguments)| (kind, measure, arguments))
-    };
-    for (kind, measure, arguments) in KINDS.into_iter().flat_map(both) {
+    for (measure, arguments) in BOTH_READINGS {
         for (count, floats) in [
             (arguments - 1, REPORTS),
             (arguments + 1, REPORTS),
@@ -121,7 +99,7 @@ fn measurements_with_readings() {
             (arguments, 0),
             (arguments, REPORTS),
         ] {
-            let (numbers, floats) = (numbers_of(kind, count), vec![f32::NAN; floats]);
+            let (numbers, floats) = (vec![1; count], vec![f32::NAN; floats]);
             let lent = |area: &mut [i32], results: &mut [i32]| {
                 measure(area, &numbers, (&floats, 15), results, 0)
             };

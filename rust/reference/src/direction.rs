@@ -9,6 +9,11 @@ pub enum Direction {
     Negative,
 }
 
+/// "A constant list gives each axis and direction its trigger place: axis 1
+/// negative 1, positive 2; axis 2: 3, 4; axis 3: 5, 6." Indexed by axis, then
+/// by the direction's number; places count from 1.
+const TRIGGER_PLACES: [[usize; 2]; 3] = [[2, 1], [4, 3], [6, 5]];
+
 impl Direction {
     /// The direction of a number; any other number is refused by 2.
     pub fn from_number(number: i64) -> Result<Self, Refusal> {
@@ -36,14 +41,12 @@ impl Direction {
     }
 }
 
-/// Index (place - 1) of the trigger of an axis, which counts from 0 here, and a
-/// direction. The place is "twice the axis, less one for the negative direction";
-/// "Bit place-1 of the status marks it."
+/// Index (place - 1) of the trigger of an axis (0..2) and a direction; "Bit
+/// place-1 of the status marks it."
 pub fn trigger_index(axis: usize, direction: Direction) -> usize {
-    let twice = 2 * (axis + 1);
-    let place = match direction {
-        Direction::Positive => twice,
-        Direction::Negative => twice - 1,
+    let column = match direction {
+        Direction::Positive => 0,
+        Direction::Negative => 1,
     };
-    place - 1
+    TRIGGER_PLACES[axis][column] - 1
 }

@@ -1,8 +1,8 @@
 //! Faults that tests plant in the reference.
 
-/// "What setters have met", and ways to do the requests wrong. A package made by
-/// [`Package::with_fault`](crate::Package::with_fault) has one of them; the places
-/// that look at it are marked `FAULT`.
+/// "What setters have met", and ways to do request 2026-01 wrong. A package made
+/// by [`Package::with_fault`](crate::Package::with_fault) has one of them; the
+/// places that look at it are marked `FAULT`.
 #[derive(Clone, Copy, Debug, PartialEq, Eq)]
 pub enum Fault {
     /// "Bytes FD FF read as 65533." What a store cannot hold is kept as its
@@ -26,43 +26,12 @@ pub enum Fault {
     FloatAfterRange,
     /// 13 for a float that is not used.
     UnusedFloat,
-    /// The ordinate's difference of a rectangle at equal magnitudes with opposite
-    /// signs.
-    OppositeFromOrdinate,
-    /// EV taken off after the differences of a rectangle are compared.
-    EmpiricalAfterComparison,
-    /// 105 and 106 report the axis whose centre is shifted more.
-    PickedByCentre,
-    /// A diameter from half of each width, rounded by itself.
-    WidthsHalvedApart,
-    /// 101 and 102 have the ordinate width for the diameter.
-    OvalWithToolOnly,
-    /// 12 for an empty job.
-    EmptyUnended,
-    /// A job of one line feed taken as empty.
-    LineFeedAsEmpty,
-    /// 1 for an empty job with no room.
-    EmptyNeedsRoom,
-    /// The step q with halves away from zero.
-    HalvesAwayFromZero,
-    /// The step q with halves to zero.
-    HalvesToZero,
-    /// The step q with halves up.
-    HalvesUp,
-    /// The step q with halves to the odd whole number.
-    HalvesToOdd,
-    /// The step q with halves to the even whole number above zero, and away from
-    /// zero below it.
-    EvenAboveZeroOnly,
-    /// The step q cut off.
-    StepTruncated,
-    /// The diameter with halves to the even whole number.
-    EvenDiameter,
 }
 
 impl Fault {
-    /// Every fault, those of document 01 in its order, then those of the requests.
-    pub const ALL: [Fault; 25] = [
+    /// Every fault, those of document 01 in its order, then those of request
+    /// 2026-01.
+    pub const ALL: [Fault; 10] = [
         Fault::UnsignedBytes,
         Fault::DeviationAgainstTzl,
         Fault::MeanClearedInBranch3,
@@ -73,29 +42,11 @@ impl Fault {
         Fault::OrdinateForAbscissa,
         Fault::FloatAfterRange,
         Fault::UnusedFloat,
-        Fault::OppositeFromOrdinate,
-        Fault::EmpiricalAfterComparison,
-        Fault::PickedByCentre,
-        Fault::WidthsHalvedApart,
-        Fault::OvalWithToolOnly,
-        Fault::EmptyUnended,
-        Fault::LineFeedAsEmpty,
-        Fault::EmptyNeedsRoom,
-        Fault::HalvesAwayFromZero,
-        Fault::HalvesToZero,
-        Fault::HalvesUp,
-        Fault::HalvesToOdd,
-        Fault::EvenAboveZeroOnly,
-        Fault::StepTruncated,
-        Fault::EvenDiameter,
     ];
 
-    /// Whether jobs with room enough can show it: no line loads a block, and the
+    /// Whether the lines of a job can show it: none loads a block, and the
     /// readings of a G line have the same float for each axis.
     pub fn shows_in_jobs(self) -> bool {
-        !matches!(
-            self,
-            Fault::UnsignedBytes | Fault::OrdinateForAbscissa | Fault::EmptyNeedsRoom
-        )
+        !matches!(self, Fault::UnsignedBytes | Fault::OrdinateForAbscissa)
     }
 }

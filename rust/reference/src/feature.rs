@@ -15,18 +15,14 @@ pub struct Feature {
     pub probe: i64,
     pub axis: i64,
     pub direction: i64,
-    /// Of a rectangle the "setpoint for the abscissa width".
     pub setpoint: i64,
     /// "c1, c2 are set centres in u on axes 1, 2."
     pub centre: [i64; 2],
     /// "Raws stand low, high, in the order above."
     pub raws: [Reading; 4],
-    /// "a further last field for the ordinate width", which rectangles alone use.
-    pub ordinate: i64,
 }
 
-/// "0 plane, 1 hole, 2 shaft, 3 groove, 4 web", then the rectangles: 5 is a
-/// pocket, 6 a boss.
+/// "0 plane, 1 hole, 2 shaft, 3 groove, 4 web".
 #[derive(Clone, Copy, Debug, PartialEq, Eq)]
 pub enum Kind {
     Plane,
@@ -34,38 +30,29 @@ pub enum Kind {
     Shaft,
     Groove,
     Web,
-    Pocket,
-    Boss,
 }
 
 impl Kind {
     /// All kinds in the order of their numbers.
-    pub const ALL: [Kind; 7] = [
+    pub const ALL: [Kind; 5] = [
         Kind::Plane,
         Kind::Hole,
         Kind::Shaft,
         Kind::Groove,
         Kind::Web,
-        Kind::Pocket,
-        Kind::Boss,
     ];
 
     /// The kind of a number of a call whose kinds begin at `first`; "a kind not
-    /// of this call" is 2.
+    /// of this call (0..4 with tool offset, 100..104 with zero offset)" is 2.
     fn from_number(number: i64, first: i64) -> Result<Kind, Refusal> {
         let place = number.checked_sub(first).and_then(|n| n.try_into().ok());
         let place: usize = place.ok_or(Refusal::Number)?;
         Kind::ALL.get(place).copied().ok_or(Refusal::Number)
     }
 
-    /// "Inside kinds (hole, groove)", and of the rectangles "5 and 105 (inside)".
+    /// "Inside kinds (hole, groove)".
     pub fn is_inside(self) -> bool {
-        matches!(self, Kind::Hole | Kind::Groove | Kind::Pocket)
-    }
-
-    /// "Pockets and bosses".
-    pub fn is_rectangle(self) -> bool {
-        matches!(self, Kind::Pocket | Kind::Boss)
+        matches!(self, Kind::Hole | Kind::Groove)
     }
 }
 
@@ -90,10 +77,8 @@ pub(crate) struct Plan<Raw = i64> {
 /// What the touches tell.
 #[derive(Clone, Copy, Debug, PartialEq, Eq)]
 pub(crate) struct Sizes {
-    /// The surface of the first touch, which is all that a plane has.
-    pub surface: i64,
-    /// "Width = high - low", 0 on an axis that is not measured.
-    pub widths: [i64; 2],
+    /// The plane's surface, or the width; "The diameter is the ordinate width."
+    pub measured: i64,
     /// "A centre is low + high, in h", on the measured axes only.
     pub centres: [Option<i64>; 2],
 }
@@ -111,10 +96,7 @@ impl Feature {
                 raw: self.raws[0],
             }],
             Kind::Groove | Kind::Web => self.pair(kind, store_index(self.axis, 2)?, 0).to_vec(),
-            // rectangles "take raws like a hole"
-            Kind::Hole | Kind::Shaft | Kind::Pocket | Kind::Boss => {
-                [self.pair(kind, 0, 0), self.pair(kind, 1, 2)].concat()
-            }
+            Kind::Hole | Kind::Shaft => [self.pair(kind, 0, 0), self.pair(kind, 1, 2)].concat(),
         };
         Ok(Plan {
             kind,
@@ -146,26 +128,16 @@ impl Feature {
         for axis in plan.pair_axes() {
             require_within(self.centre[axis], POSITION)?;
         }
-        if plan.kind == Kind::Plane {
-            return require_within(self.setpoint, POSITION);
-        }
-        require_width(self.setpoint)?;
-        if plan.kind.is_rectangle() {
-            // "The ordinate width has the range of a width setpoint"
-            require_width(self.ordinate)?;
-        }
-        Ok(())
+        // "a width setpoint in 1..10,000,000"
+        require_within(self.setpoint, POSITION)?;
+        let width = plan.kind != Kind::Plane;
+        require(!width || self.setpoint >= 1, Refusal::Range)
     }
 
     /// Centre - 2·set centre, h, on a measured axis.
     pub(crate) fn centre_shift(&self, sizes: &Sizes, axis: usize) -> Option<i64> {
         sizes.centres[axis].map(|centre| centre - 2 * self.centre[axis])
     }
-}
-
-/// "a width setpoint in 1..10,000,000".
-fn require_width(setpoint: i64) -> Result<(), Refusal> {
-    require((1..=POSITION).contains(&setpoint), Refusal::Range)
 }
 
 impl Plan<Reading> {
@@ -230,16 +202,15 @@ impl Plan {
         require(self.touches.iter().all(calibrated), Refusal::Uncalibrated)?;
 
         let mut sizes = Sizes {
-            surface: self.surface(records, &self.touches[0]),
-            widths: [0, 0],
+            measured: self.surface(records, &self.touches[0]),
             centres: [None, None],
         };
         for pair in self.touches.chunks_exact(2) {
             let low = self.surface(records, &pair[0]);
             let high = self.surface(records, &pair[1]);
             require(high > low, Refusal::Inverted)?;
-            sizes.widths[pair[0].axis] = high - low;
             sizes.centres[pair[0].axis] = Some(low + high);
+            sizes.measured = high - low;
         }
         Ok(sizes)
     }

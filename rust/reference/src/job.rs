@@ -3,7 +3,6 @@
 use std::io::Write;
 
 use crate::calls::{Answer, Call};
-use crate::fault::Fault;
 use crate::line::read_line;
 use crate::package::Package;
 use crate::ranges::require;
@@ -16,13 +15,13 @@ pub const JOB_LINES: usize = 1_000;
 /// "40 bytes a line".
 pub const OUTPUT_LINE: usize = 40;
 
-/// The lines of a job without their line feeds; "An empty job is now run as a job
-/// of no lines". "12 over 65,536 bytes, over 1,000 lines or last line unended".
+/// The lines of a job without their line feeds. "11 empty; 12 over 65,536 bytes,
+/// over 1,000 lines or last line unended".
 pub fn job_lines(text: &[u8]) -> Result<Vec<&[u8]>, Refusal> {
+    require(!text.is_empty(), Refusal::EmptyJob)?;
     require(text.len() <= JOB_BYTES, Refusal::JobForm)?;
-    let lines = text.split_inclusive(|&byte| byte == b'\n');
-    let ended = lines.map(|line| line.strip_suffix(b"\n").ok_or(Refusal::JobForm));
-    let lines = ended.collect::<Result<Vec<_>, _>>()?;
+    let ended = text.strip_suffix(b"\n").ok_or(Refusal::JobForm)?;
+    let lines: Vec<&[u8]> = ended.split(|&byte| byte == b'\n').collect();
     require(lines.len() <= JOB_LINES, Refusal::JobForm)?;
     Ok(lines)
 }
@@ -38,27 +37,14 @@ pub fn runnable_lines(text: &[u8], room: usize) -> Result<Vec<&[u8]>, Refusal> {
 impl Package {
     /// Runs a job and answers the length written. "Bytes past the output stay."
     pub fn run_job(&mut self, text: &[u8], output: &mut [u8]) -> Result<usize, Refusal> {
+        let lines = runnable_lines(text, output.len())?;
         let room = output.len();
-        let lines = self.lines_to_run(text, room)?;
         let mut rest = &mut output[..];
         for (index, line) in lines.iter().enumerate() {
             let answer = self.run_line(line);
             write_answer(&mut rest, index + 1, &answer);
         }
         Ok(room - rest.len())
-    }
-
-    /// [`runnable_lines`], or what a planted fault makes of them.
-    fn lines_to_run<'a>(&self, text: &'a [u8], room: usize) -> Result<Vec<&'a [u8]>, Refusal> {
-        match (self.planted(), text) {
-            // FAULT: the last line of an empty job is unended
-            (Some(Fault::EmptyUnended), b"") => Err(Refusal::JobForm),
-            // FAULT: an empty job needs room
-            (Some(Fault::EmptyNeedsRoom), b"") if room == 0 => Err(Refusal::Room),
-            // FAULT: an empty line is no line
-            (Some(Fault::LineFeedAsEmpty), b"\n") => Ok(Vec::new()),
-            _ => runnable_lines(text, room),
-        }
     }
 
     /// "A line: 10 malformed or too long, else its operation's."

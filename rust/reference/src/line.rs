@@ -1,7 +1,6 @@
 //! The lines of a job, read and written.
 
 use std::ops::Range;
-use std::slice;
 
 use crate::calibration::Calibration;
 use crate::calls::Call;
@@ -17,8 +16,6 @@ use crate::zero_offset::ZeroMeasurement;
 pub const LINE: usize = 200;
 /// The places of r1..r4 among the fields of a T, Z or G line.
 pub const RAWS: Range<usize> = 7..11;
-/// The kinds whose lines have "a further last field for the ordinate width".
-pub const RECTANGLES: [i64; 4] = [5, 6, 105, 106];
 
 /// The call of a line (without its line feed); "10 malformed or too long".
 pub fn read_line(line: &[u8]) -> Result<Call, Refusal> {
@@ -121,16 +118,10 @@ fn float_reading(field: i64) -> Option<Reading> {
     Some(Reading::Report(Report::of_bits(bits)))
 }
 
-/// "kind,probe,axis,direction,setpoint,c1,c2,r1,r2,r3,r4", with the further last
-/// field of a rectangle, and the fields between.
-fn feature_of(fields: &[i64], reading: fn(i64) -> Option<Reading>) -> Option<(Feature, &[i64])> {
-    let (first, rest) = fields.split_first_chunk()?;
-    let &[kind, probe, axis, direction, setpoint, c1, c2, r1, r2, r3, r4] = first;
-    let (ordinate, rest) = match has_ordinate(kind) {
-        true => rest.split_last().map(|(&last, rest)| (last, rest))?,
-        false => (0, rest),
-    };
-    let feature = Feature {
+/// "kind,probe,axis,direction,setpoint,c1,c2,r1,r2,r3,r4".
+fn feature_of(fields: &[i64; 11], reading: fn(i64) -> Option<Reading>) -> Option<Feature> {
+    let [kind, probe, axis, direction, setpoint, c1, c2, r1, r2, r3, r4] = *fields;
+    Some(Feature {
         kind,
         probe,
         axis,
@@ -138,25 +129,17 @@ fn feature_of(fields: &[i64], reading: fn(i64) -> Option<Reading>) -> Option<(Fe
         setpoint,
         centre: [c1, c2],
         raws: [reading(r1)?, reading(r2)?, reading(r3)?, reading(r4)?],
-        ordinate,
-    };
-    Some((feature, rest))
-}
-
-/// "a further last field for the ordinate width, which lines of other kinds don't
-/// have; the kind alone decides this, under each of the three letters".
-pub fn has_ordinate(kind: i64) -> bool {
-    RECTANGLES.contains(&kind)
+    })
 }
 
 fn tool_call(fields: &[i64], reading: fn(i64) -> Option<Reading>) -> Option<Call> {
-    let (feature, rest) = feature_of(fields, reading)?;
+    let (feature, rest) = fields.split_first_chunk()?;
     let &[tool, ev, mv, k, tzl, tmv, tul, tll, tdif, tsa] = rest else {
         return None;
     };
     Some(Call::MeasureTool {
         measurement: ToolMeasurement {
-            feature,
+            feature: feature_of(feature, reading)?,
             tool,
             ev,
             mv,
@@ -176,13 +159,13 @@ fn tool_call(fields: &[i64], reading: fn(i64) -> Option<Reading>) -> Option<Call
 }
 
 fn zero_call(fields: &[i64]) -> Option<Call> {
-    let (feature, rest) = feature_of(fields, whole_reading)?;
+    let (feature, rest) = fields.split_first_chunk()?;
     let &[offset, tsa] = rest else {
         return None;
     };
     Some(Call::MeasureZero {
         measurement: ZeroMeasurement {
-            feature,
+            feature: feature_of(feature, whole_reading)?,
             offset,
             tsa,
         },
@@ -212,13 +195,11 @@ pub fn fields_of(call: &Call) -> Option<(char, Vec<i64>)> {
                 Some(feature) => ('T', feature),
                 None => ('G', feature_fields(&m.feature, float_field)?),
             };
-            let ordinate = ordinate_field(&m.feature)?;
-            (letter, [&feature[..], &rest, ordinate].concat())
+            (letter, [&feature[..], &rest].concat())
         }
         Call::MeasureZero { measurement: m, .. } => {
             let feature = feature_fields(&m.feature, whole_field)?;
-            let ordinate = ordinate_field(&m.feature)?;
-            ('Z', [&feature[..], &[m.offset, m.tsa], ordinate].concat())
+            ('Z', [&feature[..], &[m.offset, m.tsa]].concat())
         }
         _ => return None,
     })
@@ -264,21 +245,11 @@ fn feature_fields(feature: &Feature, raw: fn(&Reading) -> Option<i64>) -> Option
         setpoint,
         centre: [c1, c2],
         raws: [r1, r2, r3, r4],
-        ordinate: _,
     } = feature;
     let [r1, r2, r3, r4] = [raw(r1)?, raw(r2)?, raw(r3)?, raw(r4)?];
     Some([
         *kind, *probe, *axis, *direction, *setpoint, *c1, *c2, r1, r2, r3, r4,
     ])
-}
-
-/// The further last field of a rectangle; a line of another kind has no place for
-/// an ordinate width.
-fn ordinate_field(feature: &Feature) -> Option<&[i64]> {
-    match has_ordinate(feature.kind) {
-        true => Some(slice::from_ref(&feature.ordinate)),
-        false => (feature.ordinate == 0).then_some(&[]),
-    }
 }
 
 /// The line of letter and fields, without its line feed; the raws of a G line

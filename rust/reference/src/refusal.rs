@@ -25,6 +25,8 @@ pub enum Refusal {
     Store = 9,
     /// 10: a job's line is "malformed or too long".
     Malformed = 10,
+    /// 11: the job is empty.
+    EmptyJob = 11,
     /// 12: the job is "over 65,536 bytes, over 1,000 lines or last line unended".
     JobForm = 12,
     /// 13: "a used float that is not a number, infinite or beyond ±1000 mm".
@@ -33,7 +35,7 @@ pub enum Refusal {
 
 impl Refusal {
     /// Every refusal in the order of its number.
-    pub const ALL: [Refusal; 12] = [
+    pub const ALL: [Refusal; 13] = [
         Refusal::Room,
         Refusal::Number,
         Refusal::Range,
@@ -44,6 +46,7 @@ impl Refusal {
         Refusal::Difference,
         Refusal::Store,
         Refusal::Malformed,
+        Refusal::EmptyJob,
         Refusal::JobForm,
         Refusal::Float,
     ];
@@ -66,6 +69,7 @@ impl Refusal {
             Refusal::Difference => "deviation above TDIF",
             Refusal::Store => "stored value would leave its range",
             Refusal::Malformed => "line malformed or too long",
+            Refusal::EmptyJob => "job is empty",
             Refusal::JobForm => {
                 "job over 65,536 bytes, over 1,000 lines, or last line without line feed"
             }

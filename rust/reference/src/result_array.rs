@@ -2,7 +2,6 @@
 
 use crate::feature::{Feature, Kind, Plan, Sizes};
 use crate::refusal::Refusal;
-use crate::size::Size;
 
 /// "42 signed 32-bit numbers: places 0..31 as _OVR, 32..41 as _OVI[0..9]."
 pub const RESULT: usize = 42;
@@ -26,13 +25,13 @@ impl Numbers {
         feature: &Feature,
         plan: &Plan,
         sizes: &Sizes,
-        size: &Size,
+        empirical: i64,
         tsa: i64,
     ) -> Self {
         let mut numbers = Numbers([0; RESULT]);
-        numbers.ovr(0, size.setpoint);
-        numbers.ovr(4, size.measured);
-        numbers.ovr(16, size.deviation());
+        numbers.ovr(0, feature.setpoint);
+        numbers.ovr(4, sizes.measured - empirical);
+        numbers.ovr(16, sizes.measured - empirical - feature.setpoint);
         numbers.ovr(28, tsa);
         // "centres stand only on measured axes"
         for axis in plan.pair_axes() {

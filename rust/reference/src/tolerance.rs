@@ -1,7 +1,6 @@
 //! "Tolerance, mean, correction": limits, verdict, branches.
 
 use crate::fault::Fault;
-use crate::mean::planted_mean;
 use crate::ranges::{require, within, LIMIT, MEAN_LIMIT};
 use crate::refusal::Refusal;
 
@@ -103,8 +102,7 @@ impl Tolerance {
         let (branch, mut correction, mean_left) = if !within(deviation, self.tmv) {
             (Branch::Full, deviation, 0)
         } else if let Some(mean) = mean {
-            let new = planted_mean(fault, mean, deviation, weight);
-            self.take_in(deviation, new, fault)
+            self.take_in(deviation, next_mean(mean, deviation, weight), fault)
         } else if !within(deviation, self.tzl) {
             (Branch::Deviation, deviation, 0)
         } else {
@@ -137,4 +135,13 @@ impl Tolerance {
             _ => (Branch::MeanKept, 0, new),
         }
     }
+}
+
+/// "new M = M - q, where q is (M - D)/k rounded to the nearest whole, halves
+/// away from zero."
+pub fn next_mean(mean: i64, deviation: i64, weight: i64) -> i64 {
+    let gap = mean - deviation;
+    // the magnitude is rounded half up, the sign goes back on afterwards
+    let step = (2 * gap.abs() + weight) / (2 * weight);
+    mean - gap.signum() * step
 }

@@ -10,7 +10,6 @@ use crate::ranges::{
 use crate::reading::Reading;
 use crate::refusal::Refusal;
 use crate::result_array::{result_part, Numbers};
-use crate::size::Size;
 use crate::tolerance::{Branch, Decision, Tolerance, Verdict};
 
 /// The arguments of a measurement with tool offset, in the order of a T line.
@@ -60,9 +59,9 @@ struct Effect {
 /// 2·s·c h, to length wear on axis 3, to radius wear on axes 1 and 2."
 pub(crate) fn wear_term(feature: &Feature, kind: Kind) -> WearTerm {
     let factor = match kind {
+        Kind::Hole | Kind::Groove => 1,
+        Kind::Shaft | Kind::Web => -1,
         Kind::Plane => 2 * Direction::from_number(feature.direction).map_or(0, Direction::sign),
-        _ if kind.is_inside() => 1,
-        _ => -1,
     };
     WearTerm {
         on_length: kind == Kind::Plane && feature.axis == AXES as i64,
@@ -87,18 +86,11 @@ impl ToolMeasurement {
         require((1..=WEIGHT).contains(&self.k), Refusal::Range)
     }
 
-    fn numbers(
-        &self,
-        plan: &Plan,
-        sizes: &Sizes,
-        size: &Size,
-        empirical: i64,
-        decision: &Decision,
-    ) -> Numbers {
+    fn numbers(&self, plan: &Plan, sizes: &Sizes, empirical: i64, decision: &Decision) -> Numbers {
         let limits = &self.tolerance;
-        let mut numbers = Numbers::of_feature(&self.feature, plan, sizes, size, limits.tsa);
-        numbers.ovr(8, size.setpoint + limits.tul);
-        numbers.ovr(12, size.setpoint + limits.tll);
+        let mut numbers = Numbers::of_feature(&self.feature, plan, sizes, empirical, limits.tsa);
+        numbers.ovr(8, self.feature.setpoint + limits.tul);
+        numbers.ovr(12, self.feature.setpoint + limits.tll);
         numbers.ovr(20, decision.correction);
         numbers.ovr(27, limits.tzl);
         numbers.ovr(29, limits.tdif);
@@ -142,10 +134,9 @@ impl Package {
         call.tolerance.check()?;
         let sizes = plan.sizes(&self.records)?;
 
-        // "EV number 0 means EV is 0"
+        // "D = measured - EV - setpoint (EV number 0 means EV is 0)"
         let empirical = used.ev.map_or(0, |index| i64::from(self.records.ev[index]));
-        let size = self.size(&call.feature, &plan, &sizes, empirical);
-        let deviation = size.deviation();
+        let deviation = sizes.measured - empirical - call.feature.setpoint;
         call.tolerance.check_deviation(deviation)?;
         let mean = used.mv.map(|index| i64::from(self.records.mv[index]));
         let decision = call
@@ -165,7 +156,7 @@ impl Package {
         let wear = i64::from(old) + term.factor * decision.correction;
         require(within(wear, WEAR), Refusal::Store)?;
         Ok(Effect {
-            numbers: call.numbers(&plan, &sizes, &size, empirical, &decision),
+            numbers: call.numbers(&plan, &sizes, empirical, &decision),
             used,
             decision,
             term,

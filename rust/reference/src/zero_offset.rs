@@ -6,11 +6,10 @@ use crate::package::Package;
 use crate::ranges::{require, store_index, within, AXES, LIMIT, OFFSET, OFFSETS};
 use crate::refusal::Refusal;
 use crate::result_array::{result_part, Numbers};
-use crate::size::Size;
 use crate::tolerance::{Branch, Verdict};
 use crate::tool_offset::Measured;
 
-/// "100..104 are the same with zero offset", and so are the rectangles 105, 106.
+/// "100..104 are the same with zero offset."
 pub const FIRST_KIND: i64 = 100;
 
 /// The arguments of a measurement with zero offset, in the order of a Z line.
@@ -31,11 +30,11 @@ struct Shift {
 impl ZeroMeasurement {
     /// Plane: "offset of that axis grows by 2·(m - setpoint) h". Pairs: "centre -
     /// 2·set centre, h, ... added on the axis measured".
-    fn shifts(&self, plan: &Plan, sizes: &Sizes, size: &Size) -> Vec<Shift> {
+    fn shifts(&self, plan: &Plan, sizes: &Sizes) -> Vec<Shift> {
         if plan.kind == Kind::Plane {
             return vec![Shift {
                 axis: plan.touches[0].axis,
-                amount: 2 * size.deviation(),
+                amount: 2 * (sizes.measured - self.feature.setpoint),
             }];
         }
         let of_axis = |axis| Shift {
@@ -47,8 +46,8 @@ impl ZeroMeasurement {
 
     /// "Zero kinds report setpoint and size too, with 0 in OVR 8, 12, 20, 27,
     /// 29, 30, 31 and OVI 4, 6, 7".
-    fn numbers(&self, plan: &Plan, sizes: &Sizes, size: &Size) -> Numbers {
-        let mut numbers = Numbers::of_feature(&self.feature, plan, sizes, size, self.tsa);
+    fn numbers(&self, plan: &Plan, sizes: &Sizes) -> Numbers {
+        let mut numbers = Numbers::of_feature(&self.feature, plan, sizes, 0, self.tsa);
         // "0 offset number, 8 zero"
         numbers.ovi(0, self.offset);
         numbers
@@ -79,8 +78,7 @@ impl Package {
         }
     }
 
-    /// Refusals 2, 13 and 3 to 9 in their order; "hole and shaft do both axes or
-    /// neither", and of rectangles "Centres and zero offsets go as for a hole."
+    /// Refusals 2, 13 and 3 to 9 in their order; "hole and shaft do both axes or neither".
     fn move_offset(&mut self, call: &ZeroMeasurement) -> Result<Numbers, Refusal> {
         let plan = call.feature.plan(FIRST_KIND)?;
         let offset = store_index(call.offset, OFFSETS)?;
@@ -90,8 +88,7 @@ impl Package {
         require((0..=LIMIT).contains(&call.tsa), Refusal::Limits)?;
         let sizes = plan.sizes(&self.records)?;
 
-        let size = self.size(&call.feature, &plan, &sizes, 0);
-        let shifts = call.shifts(&plan, &sizes, &size);
+        let shifts = call.shifts(&plan, &sizes);
         let moved = self.moved(offset, &shifts, call.tsa);
         if self.has(Fault::HalfHole) && moved.is_err() {
             // FAULT: each axis for itself
@@ -102,7 +99,7 @@ impl Package {
             }
         }
         self.records.offsets[offset] = moved?;
-        Ok(call.numbers(&plan, &sizes, &size))
+        Ok(call.numbers(&plan, &sizes))
     }
 
     /// The offset after all shifts. Each shift in h is held "against 2·TSA"; a

@@ -7,7 +7,7 @@ use common::{at, calibrated, call, check, check_field, check_unused, with, GROOV
 #[test]
 fn numbers_of_a_tool_groove() {
     check('T', GROOVE, &[(&[], 0)]);
-    let kinds = [i64::MIN, -1, 7, 99, 100, 103, 104, 107, i64::MAX];
+    let kinds = [i64::MIN, -1, 5, 6, 99, 100, 103, 104, 105, i64::MAX];
     check_field('T', GROOVE, at::KIND, &kinds.map(|kind| (kind, 2)));
     check_field('T', GROOVE, at::PROBE, &[(0, 2), (1, 0), (3, 0), (4, 2)]);
     check_field('T', GROOVE, at::AXIS, &[(0, 2), (1, 0), (2, 0), (3, 2)]);
@@ -156,13 +156,14 @@ fn a_plane_and_a_hole_use_other_fields() {
         check_unused('T', hole, &[at::AXIS, at::DIRECTION]);
         check_field('T', hole, at::C2, &[(10_000_000, 0), (10_000_001, 3)]);
         check_field('T', hole, at::R3, &[(10_000_001, 3), (10_000_000, 6)]);
-        // the other width is 1000: D is half of what this one is more, halves up
-        for place in [at::R2, at::R4] {
-            let rows = [(0, 6), (1, 8), (398, 8), (399, 0), (1600, 0), (1601, 8)];
-            check_field('T', hole, place, &rows);
-            let rows = [(3000, 8), (3001, 7), (10_000_000, 7), (10_000_001, 3)];
-            check_field('T', hole, place, &rows);
-        }
+        // the abscissa is compared with nothing but itself
+        check_field(
+            'T',
+            hole,
+            at::R2,
+            &[(0, 6), (1, 0), (10_000_000, 0), (10_000_001, 3)],
+        );
+        check_field('T', hole, at::R4, &[(1300, 0), (1301, 8)]);
     }
 }
 

@@ -7,7 +7,7 @@ use common::{at, calibrated, call, check, check_field, check_unused, with, ZERO_
 #[test]
 fn zero_groove() {
     check('Z', ZERO_GROOVE, &[(&[], 0)]);
-    let kinds = [i64::MIN, -1, 0, 3, 4, 7, 99, 107, i64::MAX];
+    let kinds = [i64::MIN, -1, 0, 3, 4, 5, 99, 105, 106, i64::MAX];
     check_field('Z', ZERO_GROOVE, at::KIND, &kinds.map(|kind| (kind, 2)));
     check_field(
         'Z',

@@ -2,8 +2,7 @@
 
 mod common;
 
-use common::{at, call, with, GROOVE, POCKET, ZERO_GROOVE, ZERO_POCKET};
-use reference::direction::{trigger_index, Direction};
+use common::{at, call, with, GROOVE, ZERO_GROOVE};
 use reference::{Package, Records};
 
 /// The trigger places (from 1) without which the line answers 5.
@@ -39,17 +38,6 @@ fn check(kind: i64, axis: i64, direction: i64, places: &[usize]) {
     assert_eq!(needed('Z', &zero), places, "kind 100 + {kind}, axis {axis}");
 }
 
-/// "twice the axis, less one for the negative direction" gives the six places of
-/// document 01.
-#[test]
-fn places_of_the_triggers() {
-    for (axis, negative, positive) in [(1, 1, 2), (2, 3, 4), (3, 5, 6)] {
-        let place = |direction| 1 + trigger_index(axis - 1, direction);
-        assert_eq!(place(Direction::Negative), negative, "axis {axis}");
-        assert_eq!(place(Direction::Positive), positive, "axis {axis}");
-    }
-}
-
 #[test]
 fn a_plane_needs_its_own_direction() {
     for (axis, negative, positive) in [(1, 1, 2), (2, 3, 4), (3, 5, 6)] {
@@ -71,18 +59,6 @@ fn hole_and_shaft_need_four_directions() {
     for kind in [1, 2] {
         check(kind, 1, 0, &[1, 2, 3, 4]);
         check(kind, 3, 7, &[1, 2, 3, 4]);
-    }
-}
-
-/// Rectangles "take raws like a hole".
-#[test]
-fn pocket_and_boss_need_four_directions() {
-    for (kind, axis, direction) in [(5, 1, 0), (6, 3, 7)] {
-        let common = [(at::PROBE, 2), (at::AXIS, axis), (at::DIRECTION, direction)];
-        let tool = with(with(POCKET, &common), &[(at::KIND, kind)]);
-        assert_eq!(needed('T', &tool), [1, 2, 3, 4], "kind {kind}");
-        let zero = with(with(ZERO_POCKET, &common), &[(at::KIND, 100 + kind)]);
-        assert_eq!(needed('Z', &zero), [1, 2, 3, 4], "kind 100 + {kind}");
     }
 }
 

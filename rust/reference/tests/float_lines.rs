@@ -164,7 +164,7 @@ fn refusals_in_their_order() {
     for (from, to, refusal) in [
         ("G,3,1,1", "G,3,4,1", 2),
         ("G,3,1,1", "G,3,1,3", 2),
-        ("G,3,1,1", "G,7,1,1", 2),
+        ("G,3,1,1", "G,5,1,1", 2),
         ("G,3,1,1", "G,103,1,1", 2),
         (",4,0,2,5,", ",33,0,2,5,", 2),
         (",4,0,2,5,", ",4,0,21,5,", 2),
@@ -181,13 +181,14 @@ fn refusals_in_their_order() {
 /// Zero offset kinds are not of this call, whatever their raws are.
 #[test]
 fn zero_kinds_are_not_of_this_call() {
-    for kind in [100, 101, 102, 103, 104, -1, 7, 105, 106, 107, 99_999_999] {
-        let further = if [105, 106].contains(&kind) { ",1" } else { "" };
-        let answer = |raws| answer(&(line('G', kind, 1, raws) + further));
+    for kind in [100, 101, 102, 103, 104, -1, 5, 6, 105, 99_999_999] {
         for raws in [[LOW, HIGH, ZERO, ZERO], [NAN; 4]] {
-            assert_eq!(answer(raws), refused(2), "{kind}");
+            assert_eq!(answer(&line('G', kind, 1, raws)), refused(2), "{kind}");
         }
-        assert_eq!(answer([LOW, HIGH, ZERO, "7FC00000"]), refused(10));
+        assert_eq!(
+            answer(&line('G', kind, 1, [LOW, HIGH, ZERO, "7FC00000"])),
+            refused(10)
+        );
     }
 }
 
@@ -231,7 +232,7 @@ fn bytes_of_a_line() {
 fn converted(fields: &[i64]) -> Option<Vec<i64>> {
     let used = match fields[0] {
         0 => 1,
-        1 | 2 | 5 | 6 => 4,
+        1 | 2 => 4,
         3 | 4 => 2,
         _ => 0,
     };

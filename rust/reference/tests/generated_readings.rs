@@ -17,7 +17,7 @@ fn axis_index(number: i64) -> usize {
 fn used(feature: &Feature) -> Vec<(Reading, usize)> {
     let axis = axis_index(feature.axis);
     let axes = match feature.kind % 100 {
-        1 | 2 | 5 | 6 => vec![0, 0, 1, 1],
+        1 | 2 => vec![0, 0, 1, 1],
         3 | 4 => vec![axis; 2],
         _ => vec![axis],
     };
@@ -60,7 +60,7 @@ fn is_half(bits: u32) -> bool {
 /// its refusal.
 fn count<K: Ord>(keys: impl Fn(&Call, u8) -> Vec<K>) -> BTreeMap<K, usize> {
     let mut found = BTreeMap::new();
-    for seed in 0..40 {
+    for seed in 0..20 {
         let mut source = CallSource::new(seed);
         let mut package = Package::fresh();
         for _ in 0..2_000 {
@@ -87,17 +87,17 @@ fn every_kind_is_done_with_reports_and_with_both_forms() {
         vec![(kind(call), form, refusal)]
     });
     let often = |kind, form| found.get(&(kind, form, 0)).copied().unwrap_or(0);
-    for kind in (0..7).chain(100..107).chain([-1]) {
+    for kind in (0..5).chain(100..105).chain([-1]) {
         for form in ["whole", "reports"] {
             let often = often(kind, form);
             assert!(often >= 100, "kind {kind}, {form}: {often}");
         }
     }
-    for kind in (1..7).chain(101..107) {
+    for kind in [1, 2, 3, 4, 101, 102, 103, 104] {
         let often = often(kind, "both");
         assert!(often >= 100, "kind {kind}, both forms: {often}");
     }
-    for kind in (0..7).chain(100..107).chain([-1]) {
+    for kind in (0..5).chain(100..105).chain([-1]) {
         let refused = found.get(&(kind, "reports", 13)).copied().unwrap_or(0);
         assert!(refused >= 5, "kind {kind}, 13: {refused}");
     }
@@ -202,7 +202,7 @@ fn jobs_have_g_lines_with_every_refusal_and_kind() {
     assert_eq!(seen, [0, 2, 3, 4, 5, 6, 7, 8, 9, 10, 13]);
     assert!(refusals[&13] > 50 && refusals[&10] > 200, "{refusals:?}");
     let seen: Vec<i64> = kinds.keys().copied().collect();
-    assert_eq!(seen, [0, 1, 2, 3, 4, 5, 6]);
+    assert_eq!(seen, [0, 1, 2, 3, 4]);
     assert!(kinds.values().all(|&often| often > 100), "{kinds:?}");
 }
 
@@ -225,16 +225,16 @@ fn wrong_digits(raw: &str) -> Option<&'static str> {
 #[test]
 fn digits_are_damaged_in_every_way() {
     let mut found: BTreeMap<(&str, bool), usize> = BTreeMap::new();
-    let texts = (0..1_600).map(|seed| String::from_utf8_lossy(&job(seed)).into_owned());
+    let texts = (0..800).map(|seed| String::from_utf8_lossy(&job(seed)).into_owned());
     for line in texts.flat_map(|text| text.lines().map(str::to_owned).collect::<Vec<_>>()) {
         let fields: Vec<&str> = line.split(',').skip(1).collect();
-        if !line.starts_with("G,") {
+        if !line.starts_with("G,") || fields.len() != 21 {
             continue;
         }
-        let used = match (fields[0], fields.len()) {
-            ("0", 21) => 1,
-            ("1" | "2", 21) | ("5" | "6", 22) => 4,
-            ("3" | "4", 21) => 2,
+        let used = match fields[0] {
+            "0" => 1,
+            "1" | "2" => 4,
+            "3" | "4" => 2,
             _ => continue,
         };
         for (index, raw) in fields[RAWS].iter().enumerate() {

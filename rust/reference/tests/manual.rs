@@ -56,10 +56,10 @@ fn example_with_k_2() {
 }
 
 /// The manual's hole of 132 mm with T20, EV 10 and mean 10, k 3, TZL 0.01, TMV
-/// 0.02, TUL/TLL ±0.03, TDIF 0.06, TSA 1 mm; both widths are 132 mm + `over`.
+/// 0.02, TUL/TLL ±0.03, TDIF 0.06, TSA 1 mm; the ordinate is 132 mm + `over`.
 fn hole_of_132_mm(over: i64) -> [i64; 21] {
     let sizes = [(at::KIND, 1), (at::SETPOINT, 1_320_000), (at::TOOL, 20)];
-    let raws = [(at::R2, 1_320_000 + over), (at::R4, 1_320_000 + over)];
+    let raws = [(at::R2, 1_320_000), (at::R4, 1_320_000 + over)];
     let numbers = [(at::EV, 10), (at::MV, 10), (at::K, 3), (at::TZL, 100)];
     let limits = [
         (at::TMV, 200),

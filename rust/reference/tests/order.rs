@@ -2,7 +2,7 @@
 
 mod common;
 
-use common::{at, call, with, CALIBRATION, GROOVE, POCKET, ZERO_GROOVE, ZERO_POCKET};
+use common::{at, call, with, CALIBRATION, GROOVE, ZERO_GROOVE};
 use reference::line::call_of;
 use reference::{Answer, Call, Package, Records, Refusal};
 
@@ -96,52 +96,6 @@ fn zero_measurement() {
     check_order('Z', sound, &breaks);
 }
 
-/// The ordinate decides: D = -1000, branch 5, at TDIF and TSA.
-#[test]
-fn pocket_with_tool_offset() {
-    let sound = || Trial {
-        records: calibrated(),
-        fields: with(POCKET, &[(at::ORDINATE, 1600), (at::TDIF, 1000)]).to_vec(),
-        array: 42,
-    };
-    let breaks: [Break; 9] = [
-        (1, |trial| trial.array = 41),
-        (2, |trial| trial.fields[at::TOOL] = 33),
-        (3, |trial| trial.fields[at::ORDINATE] = 0),
-        (4, |trial| trial.fields[at::TZL] = -1),
-        (5, |trial| trial.records.status[0] &= 0b110111),
-        (6, |trial| trial.fields[at::R3] = 600),
-        (7, |trial| trial.fields[at::TDIF..=at::TSA].fill(999)),
-        (8, |trial| trial.fields[at::TDIF] = 998),
-        (9, |trial| trial.records.wears[3].radius = -1_999_001),
-    ];
-    check_order('T', sound, &breaks);
-}
-
-/// Off by 2000 h on the ordinate; the widths are compared with nothing.
-#[test]
-fn pocket_with_zero_offset() {
-    let sound = || Trial {
-        records: calibrated(),
-        fields: with(ZERO_POCKET, &[(at::R4, 2600)]).to_vec(),
-        array: 42,
-    };
-    let breaks: [Break; 8] = [
-        (1, |trial| trial.array = 41),
-        (2, |trial| trial.fields[at::PROBE] = 4),
-        (3, |trial| trial.fields[at::ZERO_ORDINATE] = 10_000_001),
-        (4, |trial| trial.fields[at::ZERO_TSA] = -1),
-        (5, |trial| trial.records.status[0] &= 0b111011),
-        (6, |trial| trial.fields[at::R1] = 1000),
-        (7, |trial| {
-            let tsa = &mut trial.fields[at::ZERO_TSA];
-            *tsa = (*tsa).min(999)
-        }),
-        (9, |trial| trial.records.offsets[1][1] = 19_998_001),
-    ];
-    check_order('Z', sound, &breaks);
-}
-
 #[test]
 fn calibration() {
     let sound = || Trial {
@@ -193,7 +147,7 @@ fn settings() {
 #[test]
 fn job() {
     let run = |text: &[u8], room: usize| Package::fresh().run_job(text, &mut vec![0; room]);
-    assert_eq!(run(b"", 0), Ok(0));
+    assert_eq!(run(b"", 0), Err(Refusal::EmptyJob));
     assert_eq!(run(b"E,1,1", 0), Err(Refusal::JobForm));
     assert_eq!(run(b"E,1,1", 40), Err(Refusal::JobForm));
     assert_eq!(run(b"E,1,1\n", 39), Err(Refusal::Room));

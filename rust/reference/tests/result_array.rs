@@ -26,11 +26,11 @@ fn expected(places: &[(usize, i32)]) -> Vec<i32> {
     array
 }
 
-/// Axis 1: low -98900 - 500, high 99901 + 600; axis 2: -99000 - 700, 99550 + 800.
+/// Axis 1: low -100000 - 500, high 101000 + 600; axis 2: -99000 - 700, 99550 + 800.
 fn hole() -> [i64; 21] {
     let raws = [
-        (at::R1, -98_900),
-        (at::R2, 99_901),
+        (at::R1, -100_000),
+        (at::R2, 101_000),
         (at::R3, -99_000),
         (at::R4, 99_550),
     ];
@@ -49,25 +49,24 @@ fn hole() -> [i64; 21] {
 fn tool_hole() {
     let mut package = package();
     let answer = call(&mut package, 'T', &hole());
-    // widths 199901 and 200050, diameter 199976, EV -12: D = -12; new mean
-    // 8 - 20/5 = 4
+    // width 200050, EV -12: D = 62; new mean 8 + 54/5 = 19
     let places = [
         (0, 200_000),
         (1, 333),
         (2, -444),
-        (4, 199_988),
-        (5, 1_101),
+        (4, 200_062),
+        (5, 1_100),
         (6, 650),
         (8, 200_150),
         (12, 199_860),
-        (16, -12),
-        (17, 435),
+        (16, 62),
+        (17, 434),
         (18, 1_538),
         (27, 20),
         (28, 1000),
         (29, 300),
         (30, -12),
-        (31, 4),
+        (31, 19),
         (32, 4),
         (34, 977),
         (35, 1),
@@ -79,7 +78,7 @@ fn tool_hole() {
     ];
     assert_eq!(answer.array, expected(&places));
     assert_eq!((answer.refusal, answer.branch, answer.verdict), (0, 3, 0));
-    assert_eq!(package.records().mv[1], 4);
+    assert_eq!(package.records().mv[1], 19);
 }
 
 /// Surface 100 - 900 on axis 3, negative: D = -800 + 12 + 700 = -88.

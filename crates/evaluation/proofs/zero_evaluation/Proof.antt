@@ -5,7 +5,7 @@ use Rattle.evaluation.proofs.zero_evaluation.Statement.{statement}
 use Rattle.evaluation.proofs.zero_evaluation.Tie as tie
 
 difference-of-requires : tie.Need-difference-of-requires
-difference-of-requires c κs = let s = c.before in (s.requires.held, omega arith)
+difference-of-requires c κs = let s = c.before in (s.requires.size, s.requires.setpoint, omega arith)
 
 cast-t4 : tie.Need-overflow-cast-t4
 cast-t4 c = (narrowed c.difference_of.result (omega (arith, c.difference_of.ensures.1))).fits

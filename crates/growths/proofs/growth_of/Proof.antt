@@ -24,7 +24,7 @@ returns c = rw (failed (corrected c.before) c.if1.true) (refl, omega arith)
 
 -- ---- a plane: twice its deviation
 difference-of-requires : tie.Need-difference-of-requires
-difference-of-requires c κs = let h = c.before.before.before.before.before.requires in (h.held, omega arith)
+difference-of-requires c κs = let h = c.before.before.before.before.before.requires in (h.size, h.setpoint, omega arith)
 
 abbrev twice : tie.After-difference-of → Ex w64
 twice c = mul (lit (pos 2)) (bound c.difference_of.result 40000000 c.difference_of.ensures.1 tt)

@@ -49,7 +49,7 @@ live : (l : tie.At-loop invariant-loop decreases-loop) → Runs (job l) (length 
 live l = runs_when (job l) (length (old l)) (start l).requires.1
 
 on : (c : tie.In-loop invariant-loop decreases-loop) → HasLine (rest c.before)
-on c = has_line (job c.before) c.before.loop.at (omega arith) ((live c.before).end (omega arith))
+on c = has_line (job c.before) c.before.loop.at (omega arith) (live c.before).ended
 
 -- ---- the line that is read
 abbrev inside : tie.After-read-line invariant-loop decreases-loop → tie.In-loop invariant-loop decreases-loop

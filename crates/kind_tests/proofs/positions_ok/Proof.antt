@@ -15,8 +15,8 @@ use Rattle.package.specs.declared.found.Kind.{Kind}
 use Rattle.package.specs.declared.arguments.Probing.{Probing}
 use Rattle.package.specs.declared.arguments.Raws.{Raws}
 use Rattle.rules.specs.Stores.{position_range, width_range}
-use Rattle.rules.specs.Kinds.{kind, plane_or_pair}
-use Rattle.rules.specs.Sizes.{pairs, setpoints, positions_ok}
+use Rattle.rules.specs.Kinds.{kind}
+use Rattle.rules.specs.Sizes.{pairs, positions_ok}
 use Rattle.kind_tests.proofs.positions_ok.Statement.{statement}
 use Rattle.kind_tests.proofs.positions_ok.Tie as tie
 
@@ -25,24 +25,20 @@ abbrev in_range : List ℤ → Bool
 in_range = every position_range
 
 module _ (k : Kind) (a : Probing) (q : Raws) where
-  abbrev set : Bool
-  set = every (plane_or_pair k.form position_range width_range) (setpoints k a)
-
-  of_plane : k.form ≡ Plane → positions_ok k a q ≡ (position_range q.r1 && set)
+  of_plane : k.form ≡ Plane → positions_ok k a q ≡ (position_range q.r1 && position_range a.setpoint)
   unfolding positions_ok
-  of_plane f = rw f (ap (λ b. b && every position_range (a.setpoint ∷ [])) (and-true (position_range q.r1 && true) ∙ and-true (position_range q.r1)))
+  of_plane f = rw f (ap (λ b. b && position_range a.setpoint) (and-true (position_range q.r1 && true) ∙ and-true (position_range q.r1)))
 
-  of_single : (centre : ℤ) → k.form ≡ Single → Each (λ p. p.set ≡ centre) (pairs (kind Single k.inside k.rectangle) a) →
-      positions_ok k a q ≡ (in_range (q.r1 ∷ q.r2 ∷ []) && position_range centre && set)
+  of_single : (set : ℤ) → k.form ≡ Single → Each (λ p. p.set ≡ set) (pairs (kind Single k.inside) a) →
+      positions_ok k a q ≡ (in_range (q.r1 ∷ q.r2 ∷ []) && position_range set && width_range a.setpoint)
   unfolding positions_ok
-  of_single centre f e =
-      rw (f, e.0) (ap (λ b. in_range (q.r1 ∷ q.r2 ∷ []) && b && every width_range (a.setpoint ∷ [])) (and-true (position_range centre)))
+  of_single set f e = rw (f, e.0) (ap (λ b. in_range (q.r1 ∷ q.r2 ∷ []) && b && width_range a.setpoint) (and-true (position_range set)))
 
-  of_double : k.form ≡ Double → positions_ok k a q ≡ ((in_range (q.r1 ∷ q.r2 ∷ []) && in_range (q.r3 ∷ q.r4 ∷ [])) && in_range (a.c1 ∷ a.c2 ∷ []) && set)
+  of_double : k.form ≡ Double →
+      positions_ok k a q ≡ ((in_range (q.r1 ∷ q.r2 ∷ []) && in_range (q.r3 ∷ q.r4 ∷ [])) && in_range (a.c1 ∷ a.c2 ∷ []) && width_range a.setpoint)
   unfolding positions_ok
   of_double f =
-      rw f (ap (λ b. b && in_range (a.c1 ∷ a.c2 ∷ []) && every width_range (setpoints (kind Double k.inside k.rectangle) a))
-      (every_append position_range (q.r1 ∷ q.r2 ∷ []) (q.r3 ∷ q.r4 ∷ [])))
+      rw f (ap (λ b. b && in_range (a.c1 ∷ a.c2 ∷ []) && width_range a.setpoint) (every_append position_range (q.r1 ∷ q.r2 ∷ []) (q.r3 ∷ q.r4 ∷ [])))
 
 -- what the code reads of its arguments
 abbrev back : ℤ → ℤ
@@ -50,6 +46,9 @@ back z = to_z w64 (of_z w64 z)
 
 two_read : (v w : ℤ) → mag v < 2 ^ 63 → mag w < 2 ^ 63 → in_range (back v ∷ back w ∷ []) ≡ in_range (v ∷ w ∷ [])
 two_read v w f g = ap₂ (λ v w. in_range (v ∷ w ∷ [])) (read v f) (read w g)
+
+setpoint_read : (s : tie.Start) → back s.args.a.setpoint ≡ s.args.a.setpoint
+setpoint_read s = read s.args.a.setpoint (search rules)
 
 first_read : (s : tie.Start) → back s.args.q.r1 ≡ s.args.q.r1
 first_read s = read s.args.q.r1 (search rules)
@@ -65,53 +64,40 @@ centres_read s = two_read s.args.a.c1 s.args.a.c2 (search rules) (search rules)
 
 returns : tie.Need-returns
 returns c =
-    let e = c.before.before in
-    let w = e.before.before in
-    let s = w.before in
-    ap₂ ◌&&◌ (c.position_ok.ensures ∙ ap position_range (first_read s)) w.setpoints_ok.ensures
+    let p = c.before.before in
+    let e = p.before.before in
+    let s = e.before.before in
+    ap₂ ◌&&◌ (p.position_ok.ensures ∙ ap position_range (first_read s)) (c.position-ok2.ensures ∙ ap position_range (setpoint_read s))
     ∙ sym (of_plane s.args.k s.args.a s.args.q e.enum_told.given.1)
 
 returns-2 : tie.Need-returns-2
 returns-2 c =
-    let m = c.before in
+    let p = c.before.before in
+    let m = p.before in
     let b = m.before in
     let e = b.before.before.before in
-    let w = e.before.before in
-    let s = w.before in
-    let centre = m.single_centre in
+    let s = e.before.before in
+    let set = m.single_centre in
     ap₂ ◌&&◌
-    (ap₂ ◌&&◌ (b.both_ok.ensures ∙ low_read s) (c.position-ok2.ensures ∙ ap position_range (read centre.result centre.type-inv)))
-    w.setpoints_ok.ensures
-    ∙ sym (of_single s.args.k s.args.a s.args.q centre.result e.enum-told2.given.1
-    (centre.ensures s.args.k.inside s.args.k.rectangle))
+    (ap₂ ◌&&◌ (b.both_ok.ensures ∙ low_read s) (p.position-ok3.ensures ∙ ap position_range (read set.result set.type-inv)))
+    (c.width_ok.ensures ∙ ap width_range (setpoint_read s))
+    ∙ sym (of_single s.args.k s.args.a s.args.q set.result e.enum-told2.given.1 (set.ensures s.args.k.inside))
 
 returns-3 : tie.Need-returns-3
 returns-3 c =
-    let high = c.before.before.before in
+    let centres = c.before.before in
+    let high = centres.before.before.before in
     let low = high.before.before.before in
     let e = low.before.before.before in
-    let w = e.before.before in
-    let s = w.before in
+    let s = e.before.before in
     ap₂ ◌&&◌
-    (ap₂ ◌&&◌ (ap₂ ◌&&◌ (low.both-ok2.ensures ∙ low_read s) (high.both-ok3.ensures ∙ high_read s)) (c.both-ok4.ensures ∙ centres_read s))
-    w.setpoints_ok.ensures
+    (ap₂ ◌&&◌ (ap₂ ◌&&◌ (low.both-ok2.ensures ∙ low_read s) (high.both-ok3.ensures ∙ high_read s)) (centres.both-ok4.ensures ∙ centres_read s))
+    (c.width-ok2.ensures ∙ ap width_range (setpoint_read s))
     ∙ sym (of_double s.args.k s.args.a s.args.q e.enum-told3.given.1)
 
 pub positions-ok-spec : {M : Type 1} → statement M
 positions-ok-spec =
     tie.close
-    (tie.spec
-    (λ c κs. search rules)
-    (λ c. search rules)
-    (λ c κs. search rules)
-    (λ c. search rules)
-    (λ c κs. search rules)
-    (λ c κs. search rules)
-    (λ c κs. search rules)
-    (λ c. search rules)
-    (λ c κs. search rules)
-    (λ c κs. search rules)
-    (λ c κs. search rules)
-    returns
-    returns-2
-    returns-3)
+    (tie.spec (λ c. search rules) (λ c κs. search rules) (λ c κs. search rules) (λ c. search rules) (λ c κs. search rules) (λ c κs. search rules)
+    (λ c κs. search rules) (λ c κs. search rules) (λ c. search rules) (λ c κs. search rules) (λ c κs. search rules) (λ c κs. search rules)
+    (λ c κs. search rules) returns returns-2 returns-3)

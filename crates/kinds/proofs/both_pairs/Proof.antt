@@ -7,9 +7,6 @@ use Rattle.signed.specs.CodeLaws.{read}
 use Rattle.kinds.proofs.both_pairs.Statement.{statement}
 use Rattle.kinds.proofs.both_pairs.Tie as tie
 
-c1_read : (s : tie.Start) → to_z w64 (of_z w64 s.args.a.c1) ≡ s.args.a.c1
-c1_read s = read s.args.a.c1 (search rules)
-
 c2_read : (s : tie.Start) → to_z w64 (of_z w64 s.args.a.c2) ≡ s.args.a.c2
 c2_read s = read s.args.a.c2 (search rules)
 
@@ -23,7 +20,7 @@ returns c =
       s.requires,
       t.0.0,
       t.0.1,
-      c1_read s,
+      read a.c1 (search rules),
       c2_read s,
       read w.ways_of.result.low (search rules),
       read w.ways_of.result.high (search rules),

@@ -1,4 +1,4 @@
--- By the axis: on 1 and on 2 the set centre is that argument, on any other it is 0; what else the kind is makes no difference.
+-- By the axis: on 1 and on 2 the set centre is that argument, on any other it is 0; whether it is inside makes no difference.
 use mathlib.Core.Path.{◌≡◌, sym, ap, ◌∙◌}
 use mathlib.Core.List.{[], ◌∷◌}
 use Prim.Native.Nat.{ℕ}
@@ -15,17 +15,17 @@ axis : (s : tie.Start) {b : ℕ} → of_z w64 s.args.a.axis ≡ b → s.args.a.a
 axis s e = sym (read s.args.a.axis (search rules)) ∙ ap (to_z w64) e
 
 returns : tie.Need-returns
-returns c inside rectangle =
+returns c inside =
     let s = c.before.before.before in
     (rw (axis s c.before.match.keys1) (sym (read s.args.a.c1 (search rules))), tt)
 
 returns-2 : tie.Need-returns-2
-returns-2 c inside rectangle =
+returns-2 c inside =
     let s = c.before.before.before in
     (rw (axis s c.before.match.keys2) (sym (read s.args.a.c2 (search rules))), tt)
 
 returns-3 : tie.Need-returns-3
-returns-3 c inside rectangle =
+returns-3 c inside =
     let r = c.match.rest in
     let a = c.before.before.args.a in
     (sym (rest (pos 0) (a.c1 ∷ a.c2 ∷ []) a.axis (r.0.1, (r.1, tt))), tt)

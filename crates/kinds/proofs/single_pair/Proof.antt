@@ -14,7 +14,7 @@ returns c =
       s.requires,
       t.0.0,
       t.0.1,
-      (c.single_centre.ensures s.args.k.inside s.args.k.rectangle).0,
+      (c.single_centre.ensures s.args.k.inside).0,
       read a.axis (search rules),
       read w.ways_of.result.low (search rules),
       read w.ways_of.result.high (search rules),

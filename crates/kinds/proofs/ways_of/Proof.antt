@@ -16,7 +16,7 @@ alike : (k : Kind) (low high : ℤ) → cond k.inside (pos 1) (pos 0) ≡ low �
     Each (λ p. (p.low.way.direction ≡ low) × (p.high.way.direction ≡ high)) (pairs k a)
 alike k low high e f a = go k.form
   where
-    go : (g : Form) → Each (λ p. (p.low.way.direction ≡ low) × (p.high.way.direction ≡ high)) (pairs (kind g k.inside k.rectangle) a)
+    go : (g : Form) → Each (λ p. (p.low.way.direction ≡ low) × (p.high.way.direction ≡ high)) (pairs (kind g k.inside) a)
     go Plane = tt
     go Single = ((e, f), tt)
     go Double = ((e, f), ((e, f), tt))

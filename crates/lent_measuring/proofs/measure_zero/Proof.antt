@@ -1,53 +1,44 @@
 -- What is lent turns it away, or it is handed on: both by the laws of either way of measuring.
 use mathlib.Core.Path.{◌≡◌, sym, ap, ◌∙◌}
+use lib.Dec.{eqb}
 use lib.ListN.{length}
 use native.Mathlib.Omega.{arith}
 use borrow.Author.Rules.{rules}
+use borrow.Author.Tests.{eqb-true}
 use Rattle.package.specs.declared.arguments.ZeroMeasurement.{ZeroMeasurement}
-use Rattle.number_counts.specs.Counts.{zero_fields, as_many, enough}
 use Rattle.arguments.specs.Arguments.{zero_of}
 use Rattle.rules.specs.Refusals.{first}
 use Rattle.rules.specs.Zero.{whole_zero}
 use Rattle.measuring.specs.Reply.{lent_rules, zero, measured_on}
-use Rattle.measuring.specs.ReplyLaws.{Asked, turned_away, as_many_lem, handed_on}
+use Rattle.measuring.specs.ReplyLaws.{Asked, turned_away, as_many, handed_on}
 use Rattle.lent_measuring.proofs.measure_zero.Statement.{statement}
 use Rattle.lent_measuring.proofs.measure_zero.Tie as tie
 
 abbrev asked : tie.Start → Asked
 asked s =
-    record {
-      measurement = zero (whole_zero (zero_of s.args.numbers.now));
-      area = s.args.area.now;
-      results = s.args.results.now;
-      place = s.args.place;
-    }
-
-refusal : (l : tie.After-lent-refusal) → let s = l.before.before in
-    l.lent_refusal.result
-    ≡ first (lent_rules (length s.args.area.now) (as_many zero_fields s.args.numbers.now) (length s.args.results.now) s.args.place)
-refusal l = rw l.before.as_many_lem.ensures at l.lent_refusal.ensures
+    record { measurement = zero (whole_zero (zero_of s.args.numbers.now)); area = s.args.area.now; results = s.args.results.now; place = s.args.place }
 
 returns : tie.Need-returns
 returns c =
     let n = c.before in
     let l = n.before.before in
-    let s = l.before.before in
+    let s = l.before in
     rw (c.decided_by.ensures, n.not_answered.ensures.0, n.not_answered.ensures.1)
-    (turned_away (asked s) (as_many zero_fields s.args.numbers.now) (refusal l) n.before.if1.true)
+    (turned_away (asked s) (eqb (length s.args.numbers.now) 13) l.lent_refusal.ensures n.before.if1.true)
 
 -- nothing of what is lent refuses it
-none : (c : tie.Else1) → let s = c.before.before.before in
-    first (lent_rules (length s.args.area.now) (as_many zero_fields s.args.numbers.now) (length s.args.results.now) s.args.place) ≡ 0
-none c = sym (refusal c.before) ∙ c.if1.false
+none : (c : tie.Else1) → let s = c.before.before in
+    first (lent_rules (length s.args.area.now) (eqb (length s.args.numbers.now) 13) (length s.args.results.now) s.args.place) ≡ 0
+none c = sym c.before.lent_refusal.ensures ∙ c.if1.false
 
 zero-of-requires : tie.Need-zero-of-requires
 zero-of-requires c κs =
     let e = c.before in
-    let s = e.before.before.before in
+    let s = e.before.before in
     omega (
       arith,
-      enough zero_fields s.args.numbers.now
-          (as_many_lem (asked s) (as_many zero_fields s.args.numbers.now) (none e)),
+      eqb-true (length s.args.numbers.now) 13
+          (as_many (asked s) (eqb (length s.args.numbers.now) 13) (none e)),
     )
 
 returns-2 : tie.Need-returns-2
@@ -55,15 +46,14 @@ returns-2 c =
     let m = c.before.before.before in
     let o = m.before.before in
     let e = o.before.before in
-    let s = e.before.before.before in
+    let s = e.before.before in
     let measured = m.evaluate_zero.ensures
     ∙ ap (λ (a : ZeroMeasurement). measured_on s.args.area.now (zero (whole_zero a)) s.args.results.now s.args.place) o.zero_of.ensures in
-    rw c.decided-by2.ensures (handed_on (asked s) (as_many zero_fields s.args.numbers.now) (none e) measured)
+    rw c.decided-by2.ensures (handed_on (asked s) (eqb (length s.args.numbers.now) 13) (none e) measured)
 
 pub measure-zero-spec : {M : Type 1} → statement M
 measure-zero-spec =
     tie.close
-    (tie.spec (λ c κs. search rules) (λ c κs. search rules) (λ c κs. search rules) (λ c κs. search rules)
-    returns zero-of-requires (λ c κs. search rules) (λ c κs. search rules)
+    (tie.spec (λ c κs. search rules) (λ c κs. search rules) (λ c κs. search rules) returns zero-of-requires (λ c κs. search rules) (λ c κs. search rules)
     (λ c. search rules)
     (λ c. search rules) returns-2)

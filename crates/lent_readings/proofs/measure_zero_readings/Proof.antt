@@ -1,91 +1,84 @@
--- What is lent turns it away, or it is handed on with the positions that its readings give: both by the laws of either way of measuring.
-use mathlib.Core.Path.{◌≡◌, sym, ◌∙◌}
-use mathlib.Core.Bool.{Bool}
-use Prim.Native.Nat.{◌≤◌}
+-- What is lent turns it away, or it is handed on: both by the laws of either way of measuring.
+use mathlib.Core.Path.{◌≡◌, sym, ap, ◌∙◌}
+use mathlib.Core.Bool.{Bool, ◌&&◌, and-eq-true_iff}
+use lib.Dec.{eqb}
 use lib.ListN.{length}
 use native.Mathlib.Omega.{arith}
 use borrow.Author.Rules.{rules}
-use Rattle.signed.specs.CodeLaws.{read}
+use borrow.Author.Tests.{eqb-true}
 use Rattle.package.specs.declared.arguments.Readings.{Readings}
+use Rattle.package.specs.declared.arguments.ZeroMeasurement.{ZeroMeasurement}
+use Rattle.package.specs.declared.arguments.ZeroReadings.{ZeroReadings}
+use Rattle.arguments.specs.Arguments.{zero_of}
 use Rattle.rules.specs.Refusals.{first}
-use Rattle.rules.specs.Kinds.{zero_kind}
-use Rattle.floats.specs.Units.{Given}
-use Rattle.number_counts.specs.Counts.{at, zero_fields}
-use Rattle.arguments.specs.Arguments.{probing_of, raws_of, zero_of, zero_reported}
-use Rattle.lent_reports.specs.LentReports.{report_floats, lent_readings}
-use Rattle.measuring.specs.Reply.{lent_rules, zero}
-use Rattle.measuring.specs.ReplyLaws.{Asked, turned_away, handed_on}
-use Rattle.lent_readings.proofs.Laws.{both_many, both_long}
+use Rattle.lent_reports.specs.LentReports.{report_floats, lent_readings, zero_reported}
+use Rattle.measuring.specs.Reply.{lent_rules, zero, measured_on}
+use Rattle.measuring.specs.ReplyLaws.{Asked, turned_away, as_many, handed_on}
 use Rattle.lent_readings.proofs.measure_zero_readings.Statement.{statement}
 use Rattle.lent_readings.proofs.measure_zero_readings.Tie as tie
 
 module _ (s : tie.Start) where
-  abbrev many : Bool
-  many = both_many zero_fields s.args.numbers.now s.args.floats.now
+  abbrev numbers_fit : Bool
+  numbers_fit = eqb (length s.args.numbers.now) 13
 
-  abbrev readings : Readings
-  readings = lent_readings (raws_of s.args.numbers.now) s.args.floats.now s.args.reported
+  abbrev floats_fit : Bool
+  floats_fit = eqb (length s.args.floats.now) report_floats
+
+  abbrev many : Bool
+  many = numbers_fit && floats_fit
+
+  abbrev reported : ZeroMeasurement → ZeroReadings
+  reported a = zero_reported a (lent_readings a.raws s.args.floats.now s.args.reported)
 
   abbrev asked : Asked
   asked =
-      record {
-        measurement = zero (zero_reported (zero_of s.args.numbers.now) readings);
-        area = s.args.area.now;
-        results = s.args.results.now;
-        place = s.args.place;
-      }
-
-refusal : (l : tie.After-lent-refusal) → let s = l.before.before.before in
-    l.lent_refusal.result ≡ first (lent_rules (length s.args.area.now) (many s) (length s.args.results.now) s.args.place)
-refusal l = rw l.before.as_many_lem.ensures at l.lent_refusal.ensures
+      record { measurement = zero (reported (zero_of s.args.numbers.now)); area = s.args.area.now; results = s.args.results.now; place = s.args.place }
 
 returns : tie.Need-returns
 returns c =
     let n = c.before in
     let l = n.before.before in
-    let s = l.before.before.before in
+    let s = l.before.before in
     rw (c.decided_by.ensures, n.not_answered.ensures.0, n.not_answered.ensures.1)
-    (turned_away (asked s) (many s) (refusal l) n.before.if1.true)
+    (turned_away (asked s) (many s) l.lent_refusal.ensures n.before.if1.true)
 
 -- nothing of what is lent refuses it
 module _ (c : tie.Else1) where
   abbrev start : tie.Start
-  start = c.before.before.before.before
+  start = c.before.before.before
 
   none : first (lent_rules (length start.args.area.now) (many start) (length start.args.results.now) start.args.place) ≡ 0
-  none = sym (refusal c.before) ∙ c.if1.false
+  none = sym c.before.lent_refusal.ensures ∙ c.if1.false
 
-  long : (zero_fields ≤ length start.args.numbers.now) × (length start.args.floats.now ≡ report_floats)
-  long = both_long (asked start) zero_fields start.args.numbers.now start.args.floats.now none
+  long : (length start.args.numbers.now ≡ 13) × (length start.args.floats.now ≡ report_floats)
+  long =
+      let b = (and-eq-true_iff (numbers_fit start) (floats_fit start)).0 (as_many (asked start) (many start) none) in
+      (eqb-true (length start.args.numbers.now) 13 b.0, eqb-true (length start.args.floats.now) report_floats b.1)
 
-probing-of-requires : tie.Need-probing-of-requires
-probing-of-requires c κs = omega (arith, (long c).0)
+zero-of-requires : tie.Need-zero-of-requires
+zero-of-requires c κs = omega (arith, (long c).0)
 
-lent-positions-requires : tie.Need-lent-positions-requires
-lent-positions-requires c κs = let l = long c.before.before.before in (omega (arith, l.0), l.1)
-
-zero-from-requires : tie.Need-zero-from-requires
-zero-from-requires c κs = omega (arith, (long c.before.before.before.before.before.before).0)
+lent-readings-requires : tie.Need-lent-readings-requires
+lent-readings-requires c κs = (long c.before.before).1
 
 returns-2 : tie.Need-returns-2
 returns-2 c =
     let m = c.before.before.before in
-    let a = m.before.before in
-    let p = a.before.before.before in
-    let k = p.before in
-    let b = k.before.before in
-    let e = b.before in
+    let g = m.before.before in
+    let l = g.before.before in
+    let o = l.before.before in
+    let e = o.before in
     let s = start e in
-    let zs = s.args.numbers.now in
-    let kind = rw (read b.probing_of.result.kind (search k.before.struct_told.given), b.probing_of.ensures) at k.zero_kind_of.ensures in
-    let given : Given (zero_kind (at zs 0)) (probing_of zero_fields zs) (readings s) p.lent_positions.result =
-    rw (kind, b.probing_of.ensures) at p.lent_positions.ensures in
-    let measured = (rw a.zero_from.ensures at m.zero_by_positions.ensures) (readings s) given in
+    let given : g.zero_reported.result ≡ reported s (zero_of s.args.numbers.now) =
+    g.zero_reported.ensures
+    ∙ ap (λ (q : Readings). zero_reported o.zero_of.result q) l.lent_readings.ensures
+    ∙ ap (reported s) o.zero_of.ensures in
+    let measured = m.evaluate_zero_readings.ensures
+    ∙ ap (λ (t : ZeroReadings). measured_on s.args.area.now (zero t) s.args.results.now s.args.place) given in
     rw c.decided-by2.ensures (handed_on (asked s) (many s) (none e) measured)
 
 pub measure-zero-readings-spec : {M : Type 1} → statement M
 measure-zero-readings-spec =
     tie.close
-    (tie.spec (λ c κs. search rules) (λ c κs. search rules) (λ c κs. search rules) (λ c κs. search rules)
-    returns probing-of-requires (λ c κs. search rules) lent-positions-requires
-    zero-from-requires (λ c κs. search rules) (λ c κs. search rules) (λ c. search rules) (λ c. search rules) returns-2)
+    (tie.spec (λ c κs. search rules) (λ c κs. search rules) (λ c κs. search rules) returns zero-of-requires lent-readings-requires (λ c κs. search rules)
+    (λ c κs. search rules) (λ c κs. search rules) (λ c. search rules) (λ c. search rules) returns-2)

@@ -1,4 +1,4 @@
--- The sizes of m and d bound m - d, so that it does not overflow; the result is by the contract of the quotient that is rounded to even.
+-- The sizes of m and d bound m - d, so that it does not overflow; the result is by the contract of the rounded quotient.
 use mathlib.Core.Path.{ap₂, ◌∙◌}
 use native.Mathlib.Omega.{arith}
 use lib.IntN.{ℤ, nat_abs}
@@ -6,7 +6,7 @@ use mir.Syntax.{w64}
 use mir.Facts.{to_z-of_z}
 use Rattle.signed.specs.CodeLaws.{read}
 use Rattle.signed.specs.Expressions.{Ex, at, sub, Runs, run, sized}
-use Rattle.signed.specs.Rounding.{halves_even, symmetric}
+use Rattle.signed.specs.Rounding.{rounded_quotient}
 use Rattle.rules.specs.Mean.{mean_rounding, mean_change}
 use Rattle.mean_value.proofs.mean_change.Statement.{statement}
 use Rattle.mean_value.proofs.mean_change.Tie as tie
@@ -18,17 +18,17 @@ runs : (c : tie.Start) → Runs (difference c)
 runs c = run (difference c) tt (search)
 
 returns : tie.Need-returns
-unfolding mean_change mean_rounding
+unfolding mean_change mean_rounding rounded_quotient
 returns c =
     let s = c.before in
-    let q = c.even_quotient in
-    read q.result q.type-inv ∙ q.ensures ∙ ap₂ (λ (n k : ℤ). symmetric halves_even n (nat_abs k)) (runs s).value (to_z-of_z s.ranges.k)
+    let q = c.rounded_quotient in
+    read q.result q.type-inv ∙ q.ensures ∙ ap₂ (λ (n k : ℤ). rounded_quotient n (nat_abs k)) (runs s).value (to_z-of_z s.ranges.k)
 
-sub-even-quotient : tie.Need-overflow-sub-even-quotient
-sub-even-quotient c = search (runs c).asks
+sub-rounded-quotient : tie.Need-overflow-sub-rounded-quotient
+sub-rounded-quotient c = search (runs c).asks
 
-even-quotient-requires : tie.Need-even-quotient-requires
-even-quotient-requires c κs = (rw (runs c).value (omega (arith, sized (difference c))), rw (to_z-of_z c.ranges.k) c.requires.1)
+rounded-quotient-requires : tie.Need-rounded-quotient-requires
+rounded-quotient-requires c κs = (rw (runs c).value (omega (arith, sized (difference c))), rw (to_z-of_z c.ranges.k) c.requires.1)
 
 pub mean-change-spec : {M : Type 1} → statement M
-mean-change-spec = tie.close (tie.spec sub-even-quotient even-quotient-requires returns)
+mean-change-spec = tie.close (tie.spec sub-rounded-quotient rounded-quotient-requires returns)

@@ -25,7 +25,7 @@ size-numbers-requires c κs =
     let h = s.requires.1.0.numbers in
     let f = s.requires.1.1 in
     rw (read s.args.f.ev (search c.struct_told.given), s.requires.0)
-    (both_small (tool_kind_of a) a.probing s.args.f.sizes s.args.f.ev h.numbers (omega (arith, number_size 0 6 a.probing.kind h.kind))
+    (both_small (tool_kind_of a) a.probing s.args.f.sizes s.args.f.ev h.numbers (omega (arith, number_size 0 4 a.probing.kind h.kind))
     f.sizes f.ev)
 
 -- the size of a number, by its place in the list of entries
@@ -85,8 +85,7 @@ Raised s t = to_z w64 (of_z w64 s.args.f.sizes.held.setpoint) +ℤ to_z w64 (of_
 
 raised_read : (s : tie.Start) (t : ℤ) → nat_abs t ≤ 1000000 → Raised s t
 raised_read s t h =
-    let setpoint = s.args.f.sizes.held.setpoint in
-    rw (to_z-of_z (small_fits t (omega (arith, h))), to_z-of_z (small_fits setpoint (omega (arith, s.requires.1.1.sizes.held.setpoint))))
+    rw (to_z-of_z (small_fits t (omega (arith, h))), to_z-of_z (small_fits s.args.f.sizes.held.setpoint (omega (arith, s.requires.1.1.sizes.setpoint))))
 
 limits : (s : tie.Start) → LimitsSmall s.args.a.limits
 limits s = limits_small s.args.a.limits s.requires.1.0.limits

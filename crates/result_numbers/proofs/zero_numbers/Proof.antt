@@ -15,7 +15,7 @@ size-numbers-requires c κs =
     let s = c.before in
     let a = s.args.a in
     let h = s.requires.1.0.numbers in
-    rw s.requires.0 (both_small (zero_kind_of a) a.probing s.args.s (pos 0) h.numbers (omega (arith, number_size 100 106 a.probing.kind h.kind))
+    rw s.requires.0 (both_small (zero_kind_of a) a.probing s.args.s (pos 0) h.numbers (omega (arith, number_size 100 104 a.probing.kind h.kind))
     s.requires.1.1 (omega arith))
 
 abbrev start : tie.After-narrow → tie.Start

@@ -15,7 +15,7 @@ use Rattle.package.specs.declared.found.Form.TheVariants.{Plane, Single, Double}
 use Rattle.package.specs.declared.found.Kind.{Kind}
 use Rattle.rules.specs.Probes.{sign}
 use Rattle.rules.specs.ProbeLaws.{sign_size}
-use Rattle.rules.specs.Kinds.{plane_or_pair}
+use Rattle.rules.specs.Kinds.{by_form}
 use Rattle.rules.specs.Tool.{factor, wear_on}
 use Rattle.wears.proofs.wear_left.Statement.{statement}
 use Rattle.wears.proofs.wear_left.Tie as tie
@@ -31,7 +31,7 @@ twice_size = parts _ (λ a b. simp ints (omega arith))
 factor_size : (k : Kind) (direction : ℤ) → nat_abs (factor k direction) ≤ 2
 factor_size k direction = go k.form
   where
-    go : (f : Form) → nat_abs (plane_or_pair f (pos 2 *ℤ sign direction) (cond k.inside (pos 1) (minus 1))) ≤ 2
+    go : (f : Form) → nat_abs (by_form f (pos 2 *ℤ sign direction) (cond k.inside (pos 1) (minus 1)) (cond k.inside (pos 1) (minus 1))) ≤ 2
     go Plane = twice_size (sign direction) (sign_size direction)
     go Single = side_size k.inside
     go Double = side_size k.inside

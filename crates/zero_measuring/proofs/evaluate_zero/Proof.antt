@@ -1,5 +1,4 @@
 -- By the cases of either way of measuring: an area of another length; refused by the arguments, then by the records; done, with the change of the call.
-use native.Mathlib.Omega.{arith}
 use mathlib.Core.Path.{◌≡◌, sym, ap, ◌∙◌}
 use borrow.Author.Rules.{rules}
 use Rattle.signed.specs.CodeLaws.{read}
@@ -73,7 +72,7 @@ zero-records-requires : tie.Need-zero-records-requires
 zero-records-requires c κs = let e = c.before in ((whole (kind e)).if1.left, (passed e).numbers)
 
 sizes-of-requires : tie.Need-sizes-of-requires
-sizes-of-requires c κs = let e = c.before.before.before in rw (kind_is (kind e)) ((passed e).numbers.numbers, (passed e).positions, omega arith)
+sizes-of-requires c κs = let e = c.before.before.before in rw (kind_is (kind e)) ((passed e).numbers.numbers, (passed e).positions)
 
 module _ (c : tie.After-sizes-of) where
   abbrev at_records : tie.After-zero-records

@@ -43,7 +43,7 @@ kept : (c : tie.Else2) → let s = c.before.before.before in Cast w32 s.args.v1 
 kept c =
     let s = c.before.before.before in
     let t = offset_passed s.args.offset s.args.v1 s.args.v2 s.args.v3 (none c) in
-    (cast s.ranges.v1 t.first_in_lem, cast s.ranges.v2 t.second_in_lem, cast s.ranges.v3 t.third_in_lem)
+    (cast s.ranges.v1 t.first_in, cast s.ranges.v2 t.second_in, cast s.ranges.v3 t.third_in)
 
 put-record-requires : tie.Need-put-record-requires
 put-record-requires c κs =

@@ -3,11 +3,12 @@
 use std::fmt;
 use std::ops::{Add, Neg, Sub};
 
-use crate::units::decimal;
-
 /// A length in ten-thousandths of a micrometre.
 #[derive(Clone, Copy, Debug, Default, PartialEq, Eq, PartialOrd, Ord)]
 pub struct Length(pub i64);
+
+/// The parts of a micrometre that a length counts, and the units of a millimetre.
+const PARTS: i64 = 10_000;
 
 impl Length {
     /// A number of units, 0.1 µm each.
@@ -75,6 +76,19 @@ impl Neg for Length {
     fn neg(self) -> Length {
         Length(-self.0)
     }
+}
+
+/// Ten-thousandths as a decimal number, without needless zeros at the end.
+fn decimal(ten_thousandths: i64) -> String {
+    let sign = if ten_thousandths < 0 { "-" } else { "" };
+    let (whole, rest) = (ten_thousandths.abs() / PARTS, ten_thousandths.abs() % PARTS);
+    let text = format!("{sign}{whole}.{rest:04}");
+    text.trim_end_matches('0').trim_end_matches('.').to_owned()
+}
+
+/// Units in millimetres, as setpoints are written.
+pub fn millimetres(units: i64) -> String {
+    decimal(units)
 }
 
 impl fmt::Display for Length {

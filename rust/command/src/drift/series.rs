@@ -242,10 +242,9 @@ impl Bench {
 mod tests {
     use super::*;
 
-    const JOBS: [&[u8]; 3] = [
+    const JOBS: [&[u8]; 2] = [
         include_bytes!("../../../../jobs/every-letter-and-refusal.txt"),
         include_bytes!("../../../../jobs/every-letter-and-refusal-floats.txt"),
-        include_bytes!("../../../../jobs/every-letter-and-refusal-rectangles.txt"),
     ];
 
     #[test]

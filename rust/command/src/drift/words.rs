@@ -1,10 +1,7 @@
 //! What the picture and the command say of a series.
 
-use mezhtolik::kind::is_rectangle;
-use reference::Feature;
-
+use super::length::millimetres;
 use super::series::{Part, Series};
-use crate::units::millimetres;
 use crate::words::kind;
 
 pub const NO_PARTS: &str = "no measurement with tool offset (T or G line) was done, so there is nothing to draw; ./mezhtolik run says why";
@@ -70,25 +67,17 @@ pub fn subtitle(series: &Series) -> String {
 /// The feature, where all parts have the same.
 fn feature(series: &Series) -> String {
     let of = |part: &Part| {
-        let feature = &part.measurement.feature;
-        kind(feature.kind).map(|kind| format!("{kind}, {}", setpoints(feature)))
+        (
+            part.measurement.feature.kind,
+            part.measurement.feature.setpoint,
+        )
     };
     let first = of(&series.parts[0]);
-    let same = series.parts.iter().all(|part| of(part) == first);
-    first
-        .filter(|_| same)
-        .unwrap_or_else(|| "several features".to_owned())
-}
-
-/// What it should be: a rectangle has a setpoint on each axis.
-fn setpoints(feature: &Feature) -> String {
-    let setpoint = millimetres(feature.setpoint);
-    match is_rectangle(feature.kind) {
-        true => format!(
-            "setpoints {setpoint} and {} mm",
-            millimetres(feature.ordinate)
-        ),
-        false => format!("setpoint {setpoint} mm"),
+    match kind(first.0) {
+        Some(kind) if series.parts.iter().all(|part| of(part) == first) => {
+            format!("{kind}, setpoint {} mm", millimetres(first.1))
+        }
+        _ => "several features".to_owned(),
     }
 }
 

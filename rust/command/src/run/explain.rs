@@ -1,6 +1,5 @@
 //! The answers with what they mean: each answer as it is, and below it lines that begin with blanks.
 
-use mezhtolik::kind::is_rectangle;
 use mezhtolik::{Branch, Refusal, Verdict};
 
 use crate::answers::Answer;
@@ -24,24 +23,21 @@ fn block(line: &[u8], text: &str, answer: &Answer) -> String {
     let malformed = answer.refusal == Refusal::MalformedLine.number();
     let about = letters::line(line, malformed);
     let mut block = format!("{text}\n{INDENT}{about}\n");
-    for said in outcome(line, answer) {
+    for said in outcome(answer) {
         block.push_str(&format!("{INDENT}{said}\n"));
     }
     block
 }
 
 /// What came of a line.
-fn outcome(line: &[u8], answer: &Answer) -> Vec<String> {
+fn outcome(answer: &Answer) -> Vec<String> {
     if answer.refusal != 0 {
         return refused(answer.refusal);
     }
     let branch = Branch::ALL
         .into_iter()
         .find(|branch| branch.number() == answer.branch);
-    branch.map_or_else(
-        || vec!["done".into()],
-        |branch| measured(line, branch, answer),
-    )
+    branch.map_or_else(|| vec!["done".into()], |branch| measured(branch, answer))
 }
 
 /// A refusal's message has what is wrong and, behind a colon, what to do.
@@ -54,12 +50,9 @@ fn refused(number: u32) -> Vec<String> {
     ]
 }
 
-fn measured(line: &[u8], branch: Branch, answer: &Answer) -> Vec<String> {
+fn measured(branch: Branch, answer: &Answer) -> Vec<String> {
     let micrometres = |number| Unit::U.micrometres(number);
     let mut figures = format!("deviation {}", micrometres(answer.deviation));
-    if letters::kind(line).is_some_and(is_rectangle) {
-        figures.push_str(" of the width that deviates more");
-    }
     // a zero offset corrects no tool and has no tolerance
     if branch != Branch::ZeroOffset {
         figures.push_str(&format!(

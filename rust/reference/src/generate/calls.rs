@@ -8,20 +8,11 @@ use super::values::{boundary, store_number, wild};
 use crate::calibration::Calibration;
 use crate::calls::Call;
 use crate::direction::{trigger_index, Direction};
-use crate::line::{call_of, fields_of, has_ordinate, is_float};
+use crate::line::{call_of, fields_of, is_float};
 use crate::package::{Package, BLOCK};
 use crate::ranges::{MEANS, OFFSETS, TOOLS, TRIGGER};
 use crate::reading::Reading;
 use crate::result_array::RESULT;
-
-/// Makes the kind of a measurement the same one of the other call.
-fn exchange_kind(letter: char, fields: &mut [i64]) {
-    match letter {
-        'T' | 'G' => fields[0] = fields[0].saturating_add(100),
-        'Z' => fields[0] = fields[0].saturating_sub(100),
-        _ => {}
-    }
-}
 
 /// A source of random calls. It follows the records with a package of its own,
 /// so that its measurements come near the limits; the calls depend on the seed
@@ -51,16 +42,11 @@ impl CallSource {
             0..=2 => self.status(),
             3..=6 => self.load(),
             7..=8 => self.save(),
-            9..=11 => self.job(),
+            9..=10 => self.job(),
             _ => {
                 let (letter, mut fields) = self.sensible_line();
-                if self.rng.chance(2) {
-                    exchange_kind(letter, &mut fields);
-                }
                 self.disturb(letter, &mut fields, wild);
-                self.set_further(letter, &mut fields, true);
                 let mut call = call_of(letter, &fields).expect("fields of a call");
-                self.unused_ordinate(&mut call);
                 mix(&mut self.rng, &mut call);
                 self.with_array(call)
             }
@@ -72,14 +58,8 @@ impl CallSource {
     /// The next line of a job as letter and fields.
     pub fn next_line(&mut self) -> (char, Vec<i64>) {
         let (letter, mut fields) = self.sensible_line();
-        let exchanged = self.rng.chance(4);
-        if exchanged {
-            exchange_kind(letter, &mut fields);
-        }
         let worse = |rng: &mut Rng| wild(rng).clamp(-99_999_999, 99_999_999);
         self.disturb(letter, &mut fields, worse);
-        let fits = !self.rng.chance(if exchanged { 35 } else { 2 });
-        self.set_further(letter, &mut fields, fits);
         self.follow(letter, &fields);
         (letter, fields)
     }
@@ -100,7 +80,7 @@ impl CallSource {
         let missing = self.package.records().status[0] != 0x3f;
         let weights = match missing {
             true => [1, 1, 1, 12, 2, 1],
-            false => [5, 8, 11, 10, 42, 24],
+            false => [5, 8, 8, 10, 45, 24],
         };
         let call = match self.rng.weighted(&weights) {
             0 => self.empirical(),
@@ -146,34 +126,6 @@ impl CallSource {
         }
     }
 
-    /// Gives a measurement the number of fields that its kind has, or one that
-    /// fits a rectangle where the kind is none and the other way round.
-    fn set_further(&mut self, letter: char, fields: &mut Vec<i64>, fits: bool) {
-        let count = match letter {
-            'T' | 'G' => 21,
-            'Z' => 13,
-            _ => return,
-        };
-        let further = usize::from(has_ordinate(fields[0]) == fits);
-        fields.resize(count + further, self.rng.pick(&[1, 200_105, 10_000_000]));
-    }
-
-    /// Gives a kind that has no use for it an ordinate width of any value.
-    fn unused_ordinate(&mut self, call: &mut Call) {
-        let feature = match call {
-            Call::MeasureTool { measurement, .. } => &mut measurement.feature,
-            Call::MeasureZero { measurement, .. } => &mut measurement.feature,
-            _ => return,
-        };
-        if !has_ordinate(feature.kind) {
-            feature.ordinate = match self.rng.below(4) {
-                0 => wild(&mut self.rng),
-                1 => boundary(&mut self.rng),
-                _ => 0,
-            };
-        }
-    }
-
     fn empirical(&mut self) -> Call {
         let value = match self.rng.below(6) {
             0 => self.rng.near(&[-32_768, 32_767]),
@@ -187,9 +139,9 @@ impl CallSource {
 
     /// A value that often stands at the end of its range, or a small one.
     fn stored_value(&mut self, limit: i64) -> i64 {
-        let value = match self.rng.below(4) {
-            0 | 1 => limit - self.rng.between(0, 40),
-            2 => self.rng.between(0, limit),
+        let value = match self.rng.below(3) {
+            0 => limit - self.rng.between(0, 40),
+            1 => self.rng.between(0, limit),
             _ => self.rng.between(0, 500),
         };
         self.rng.signed(value)

@@ -2,7 +2,7 @@
 
 use super::readings::edge_bits;
 use super::rng::Rng;
-use crate::line::{is_float, write_line, RAWS, RECTANGLES};
+use crate::line::{is_float, write_line, RAWS};
 
 /// Ways to change one field.
 const FIELDS: [&str; 18] = [
@@ -100,61 +100,44 @@ fn damage_bytes(rng: &mut Rng, line: &[u8]) -> Vec<u8> {
 
 /// A line of exactly this many bytes: well formed if it can be, else padded.
 pub fn line_of_length(rng: &mut Rng, length: usize) -> Vec<u8> {
-    let letter = rng.pick(&['T', 'T', 'G']);
-    let fields = match rng.chance(80) {
-        true => fields_of_length(rng, letter, length),
-        false => None,
-    };
-    if let Some(fields) = fields {
-        return write_line(letter, &fields).into_bytes();
+    if (71..=207).contains(&length) && rng.chance(35) {
+        return measurement_of_length(rng, 'G', length);
+    }
+    if (43..=211).contains(&length) && rng.chance(70) {
+        return measurement_of_length(rng, 'T', length);
     }
     let mut line = b"E,1,5".to_vec();
     line.resize(length, rng.pick(b"0 ,"));
     line
 }
 
-/// The fields of a T or G line of exactly this many bytes, if there is one: a
-/// kind, one more field for a rectangle, floats of eight bytes, numbers of one to
-/// nine; what is over goes to random numbers.
-fn fields_of_length(rng: &mut Rng, letter: char, length: usize) -> Option<Vec<i64>> {
-    let rectangle = rng.chance(30);
-    let kind = match rectangle {
-        true => rng.pick(&RECTANGLES),
-        false => rng.pick(&[0, 3, 7, 104, 99_999_999]),
-    };
-    let count = if rectangle { 22 } else { 21 };
-    let size = |place| match place {
-        0 => kind.to_string().len(),
-        _ if is_float(letter, place) => 8,
-        _ => 1,
-    };
-    let mut sizes: Vec<usize> = (0..count).map(size).collect();
-    let numbers = (1..count).filter(|&place| !is_float(letter, place));
-    let mut open: Vec<usize> = numbers.collect();
-    let mut over = length.checked_sub(1 + count + sizes.iter().sum::<usize>())?;
-    while over > 0 && !open.is_empty() {
-        let chosen = rng.below(open.len());
-        sizes[open[chosen]] += 1;
-        over -= 1;
-        if sizes[open[chosen]] == 9 {
-            open.remove(chosen);
-        }
+/// A T or G line of exactly this many bytes: 21 fields of one to nine bytes, the
+/// floats of eight; what is over goes to random fields.
+fn measurement_of_length(rng: &mut Rng, letter: char, length: usize) -> Vec<u8> {
+    let mut sizes: [u32; 21] = std::array::from_fn(|place| match is_float(letter, place) {
+        true => 8,
+        false => 1,
+    });
+    let numbers = (0..21).filter(|&place| !is_float(letter, place));
+    let numbers: Vec<usize> = numbers.collect();
+    while 22 + sizes.iter().sum::<u32>() < length as u32 {
+        let open = numbers.iter().copied().filter(|&place| sizes[place] < 9);
+        let open: Vec<usize> = open.collect();
+        sizes[rng.pick(&open)] += 1;
     }
-    let field = |(place, size)| match size {
-        _ if place == 0 => kind,
+    let fields: [i64; 21] = std::array::from_fn(|place| match sizes[place] {
         _ if is_float(letter, place) => edge_bits(rng).into(),
         9 => -10_i64.pow(7) * rng.between(1, 9),
-        size => 10_i64.pow(size as u32 - 1) * rng.between(1, 9),
-    };
-    let fields = sizes.into_iter().enumerate().map(field);
-    (over == 0).then_some(fields.collect())
+        size => 10_i64.pow(size - 1) * rng.between(1, 9),
+    });
+    write_line(letter, &fields).into_bytes()
 }
 
 /// The line with one damage.
 pub fn damage(rng: &mut Rng, line: &[u8]) -> Vec<u8> {
     match rng.below(10) {
         0 => {
-            let length = rng.pick(&[199, 200, 201, 202, 203, 211, 213]);
+            let length = rng.pick(&[199, 200, 201, 202, 203, 211]);
             line_of_length(rng, length)
         }
         1..=6 if line.starts_with(b"G,") => damage_digits(rng, line),

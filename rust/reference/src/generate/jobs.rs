@@ -29,15 +29,9 @@ fn mixed_lines(seed: u64, count: usize, damage_percent: usize) -> Vec<Vec<u8>> {
     lines
 }
 
-/// A job of few lines, well formed or damaged, sometimes refused as a whole; often
-/// none, or one empty line.
+/// A job of few lines, well formed or damaged, sometimes refused as a whole.
 pub fn small_job(seed: u64) -> Vec<u8> {
     let mut rng = Rng::new(seed);
-    match rng.below(12) {
-        0 | 1 => return Vec::new(),
-        2 => return b"\n".to_vec(),
-        _ => {}
-    }
     let count = rng.below(30);
     let damage_percent = rng.pick(&[0, 5, 30]);
     let mut text = join(&mixed_lines(rng.draw(), count, damage_percent));
@@ -121,12 +115,11 @@ fn at_byte_limit(rng: &mut Rng) -> Vec<u8> {
 /// No last line feed, one too many, nothing at all, only line feeds.
 fn odd_ends(rng: &mut Rng, count: usize) -> Vec<u8> {
     let mut text = join(&mixed_lines(rng.draw(), count, 2));
-    match rng.below(6) {
+    match rng.below(5) {
         0 => drop(text.pop()),
         1 => text.push(b'\n'),
         2 => text.clear(),
-        3 => text = b"\n".to_vec(),
-        4 => text = vec![b'\n'; rng.pick(&[2, 1_000, 1_001])],
+        3 => text = vec![b'\n'; rng.pick(&[1, 2, 1_000, 1_001])],
         _ => text.extend(b"E,1,1"),
     }
     text

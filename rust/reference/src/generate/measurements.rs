@@ -5,14 +5,11 @@ use super::values::{optional_number, store_number};
 use crate::direction::{trigger_index, Direction};
 use crate::feature::{Feature, Kind};
 use crate::package::Package;
-use crate::ranges::{within, LIMIT, MEANS, MEAN_LIMIT, OFFSET, OFFSETS, TOOLS};
+use crate::ranges::{LIMIT, MEANS, MEAN_LIMIT, OFFSETS, TOOLS};
 use crate::reading::Reading;
 use crate::tolerance::Tolerance;
 use crate::tool_offset::ToolMeasurement;
 use crate::zero_offset::{ZeroMeasurement, FIRST_KIND};
-
-/// Setpoints of widths.
-const WIDTHS: [i64; 7] = [1, 2, 500, 20_000, 200_105, 1_320_000, 9_000_000];
 
 /// Limits in their order, often narrow.
 fn tolerance(rng: &mut Rng) -> Tolerance {
@@ -40,7 +37,7 @@ fn tolerance(rng: &mut Rng) -> Tolerance {
 
 /// A deviation at or next to something that decides about it.
 fn deviation(rng: &mut Rng, limits: &Tolerance, mean: i64, k: i64) -> i64 {
-    match rng.below(9) {
+    match rng.below(8) {
         // the new mean lands at or next to ±TZL
         0 | 1 => {
             let target = rng.signed(limits.tzl);
@@ -48,9 +45,9 @@ fn deviation(rng: &mut Rng, limits: &Tolerance, mean: i64, k: i64) -> i64 {
         }
         2 => rng.between(-limits.tmv, limits.tmv),
         3 => rng.between(-limits.tdif, limits.tdif),
-        // halves, if k is even: M - D is an odd number of half k
-        4 | 5 => mean - k * rng.between(-3, 2) - k / 2,
-        6 => rng.near(&[limits.tul, limits.tll]),
+        // halves: M - D is an odd number of half k
+        4 => mean - k * rng.between(-4, 3) - k / 2,
+        5 => rng.near(&[limits.tul, limits.tll]),
         _ => {
             let all = [0, limits.tzl, limits.tmv, limits.tdif, limits.tsa];
             let bound = rng.near(&all);
@@ -59,27 +56,13 @@ fn deviation(rng: &mut Rng, limits: &Tolerance, mean: i64, k: i64) -> i64 {
     }
 }
 
-/// The setpoint of a rectangle's ordinate width, seldom one out of its range.
-fn ordinate_width(rng: &mut Rng, abscissa: i64) -> i64 {
-    match rng.below(25) {
-        0 => rng.pick(&[-1, 0, 10_000_001]),
-        1 => rng.pick(&[1, 10_000_000]),
-        2..=6 => abscissa,
-        _ => rng.pick(&WIDTHS),
-    }
-}
-
 /// A draft whose raws are yet to be placed.
 fn draft(rng: &mut Rng, kind: Kind) -> Feature {
-    let width = rng.pick(&WIDTHS);
+    let width = rng.pick(&[1, 2, 500, 20_000, 200_105, 1_320_000, 9_000_000]);
     let setpoint = match kind {
         Kind::Plane => rng.pick(&[-9_000_000, -width, 0, width, 800_000]),
         _ if rng.chance(3) => 10_000_000,
         _ => width,
-    };
-    let ordinate = match kind.is_rectangle() {
-        true => ordinate_width(rng, setpoint),
-        false => 0,
     };
     let pair = matches!(kind, Kind::Groove | Kind::Web);
     let mut unused = || match rng.below(8) {
@@ -95,7 +78,6 @@ fn draft(rng: &mut Rng, kind: Kind) -> Feature {
         setpoint,
         centre: [(); 2].map(|()| rng.pick(&[0, 0, 640_000, -3_000_001, 1_000_000])),
         raws,
-        ordinate,
     }
 }
 
@@ -143,7 +125,7 @@ fn place(package: &Package, kind: Kind, feature: &mut Feature, size: i64, spans:
             let placed = pair_raws(package, probe, inside, axis, spans[axis]);
             feature.raws[..2].copy_from_slice(&placed.map(Reading::Whole));
         }
-        Kind::Hole | Kind::Shaft | Kind::Pocket | Kind::Boss => {
+        Kind::Hole | Kind::Shaft => {
             for (axis, span) in spans.into_iter().enumerate() {
                 let placed = pair_raws(package, probe, inside, axis, span);
                 feature.raws[2 * axis..2 * axis + 2].copy_from_slice(&placed.map(Reading::Whole));
@@ -152,41 +134,13 @@ fn place(package: &Package, kind: Kind, feature: &mut Feature, size: i64, spans:
     }
 }
 
-/// The widths of a hole of this diameter: their sum is twice it, or the odd number
-/// below. Seldom one of them alone is beyond `tsa`, or is none.
-fn hole_widths(rng: &mut Rng, diameter: i64, tsa: i64) -> [i64; 2] {
-    let sum = 2 * diameter - rng.between(0, 1);
-    let one = match rng.below(20) {
+/// The width of the abscissa, which a hole's deviation does not look at.
+fn other_width(rng: &mut Rng, width: i64) -> i64 {
+    match rng.below(20) {
         0 => rng.between(-1, 1),
-        1..=3 => {
-            let beyond = rng.near(&[tsa, 2 * tsa]);
-            diameter + rng.signed(beyond)
-        }
-        _ => diameter + rng.between(-3, 3),
-    };
-    rng.pick(&[[one, sum - one], [sum - one, one]])
-}
-
-/// The differences of a rectangle's widths: on one axis the one wanted, on the
-/// other one of equal magnitude, next to it, or mostly smaller.
-fn differences(rng: &mut Rng, wanted: i64) -> [i64; 2] {
-    let other = match rng.below(8) {
-        0 | 1 => -wanted,
-        2 => wanted,
-        3 => rng.near(&[wanted, -wanted]),
-        4 => rng.between(-2, 2) - wanted,
-        _ => rng.between(-wanted.abs(), wanted.abs()),
-    };
-    rng.pick(&[[wanted, other], [other, wanted]])
-}
-
-/// The widths of a rectangle whose differences are so wanted.
-fn rectangle_widths(rng: &mut Rng, feature: &Feature, wanted: i64, empirical: i64) -> [i64; 2] {
-    let [abscissa, ordinate] = differences(rng, wanted);
-    [
-        feature.setpoint + empirical + abscissa,
-        feature.ordinate + empirical + ordinate,
-    ]
+        1 => 20_000,
+        _ => width + rng.between(-2, 2),
+    }
 }
 
 /// A measurement with tool offset.
@@ -195,7 +149,7 @@ pub fn tool_measurement(rng: &mut Rng, package: &Package) -> ToolMeasurement {
     let tolerance = tolerance(rng);
     let ev = optional_number(rng, MEANS as i64);
     let mv = optional_number(rng, MEANS as i64);
-    let k = rng.pick(&[1, 2, 2, 2, 3, 4, 4, 5, 6, 7, 10, 999, 1_000]);
+    let k = rng.pick(&[1, 2, 2, 3, 4, 5, 6, 7, 10, 999, 1_000]);
     let stored = |values: &[i16], number: i64| match number {
         0 => 0,
         _ => i64::from(values[number as usize - 1]),
@@ -203,17 +157,15 @@ pub fn tool_measurement(rng: &mut Rng, package: &Package) -> ToolMeasurement {
     let mean = stored(&package.records().mv, mv);
     let deviation = deviation(rng, &tolerance, mean, k);
     let mut feature = draft(rng, kind);
-    let empirical = stored(&package.records().ev, ev);
-    let size = deviation + empirical + feature.setpoint;
-    let widths = match kind {
-        Kind::Hole | Kind::Shaft => hole_widths(rng, size, tolerance.tsa),
-        Kind::Pocket | Kind::Boss => rectangle_widths(rng, &feature, deviation, empirical),
-        _ => [size; 2],
-    };
-    let spans = [0, 1].map(|axis| Span {
-        width: widths[axis],
-        centre: 2 * feature.centre[axis] + rng.between(-900, 900),
+    let size = deviation + stored(&package.records().ev, ev) + feature.setpoint;
+    let centres = feature.centre.map(|set| 2 * set + rng.between(-900, 900));
+    let mut spans = centres.map(|centre| Span {
+        width: size,
+        centre,
     });
+    if matches!(kind, Kind::Hole | Kind::Shaft) {
+        spans[0].width = other_width(rng, size);
+    }
     place(package, kind, &mut feature, size, spans);
     ToolMeasurement {
         feature,
@@ -225,42 +177,25 @@ pub fn tool_measurement(rng: &mut Rng, package: &Package) -> ToolMeasurement {
     }
 }
 
-/// How far an axis is off, in h: at or next to 2·TSA, as far as the nearer end of
-/// the offset's range, or anything between.
-fn shift(rng: &mut Rng, tsa: i64, stored: i64) -> i64 {
-    let to_end = stored.signum() * OFFSET - stored;
-    match rng.below(6) {
-        0 | 1 => {
-            let bound = rng.near(&[2 * tsa]);
-            rng.signed(bound)
-        }
-        2 | 3 if within(to_end, 2 * tsa) => rng.near(&[to_end]),
-        _ => rng.between(-2 * tsa, 2 * tsa),
-    }
-}
-
 /// A measurement with zero offset.
 pub fn zero_measurement(rng: &mut Rng, package: &Package) -> ZeroMeasurement {
     let kind = rng.pick(&Kind::ALL);
     let tsa = rng.pick(&[0, 1, 50, 12_000, 20_000, 1_000_000]);
-    let offset = store_number(rng, OFFSETS as i64);
-    let stored = package.records().offsets[offset as usize - 1];
     let mut feature = draft(rng, kind);
-    let axis = feature.axis as usize - 1;
-    let plane_shift = shift(rng, tsa, stored[axis].into());
-    let plane = feature.setpoint + plane_shift.div_euclid(2) + rng.between(0, 1);
-    let deviation = rng.between(-1, 40);
-    let width = feature.setpoint + deviation;
-    let widths = match kind {
-        Kind::Hole | Kind::Shaft => hole_widths(rng, width, tsa),
-        Kind::Pocket | Kind::Boss => rectangle_widths(rng, &feature, deviation, 0),
-        _ => [width; 2],
+    let shift = |rng: &mut Rng| match rng.below(3) {
+        0 => {
+            let bound = rng.near(&[2 * tsa]);
+            rng.signed(bound)
+        }
+        _ => rng.between(-2 * tsa, 2 * tsa),
     };
-    let spans = [0, 1].map(|axis| {
-        let centre = 2 * feature.centre[axis] + shift(rng, tsa, stored[axis].into());
-        let odd = (centre - widths[axis]).rem_euclid(2);
+    let plane = feature.setpoint + shift(rng).div_euclid(2) + rng.between(0, 1);
+    let width = feature.setpoint + rng.between(-1, 40);
+    let spans = feature.centre.map(|set| {
+        let centre = 2 * set + shift(rng);
+        let odd = (centre - width).rem_euclid(2);
         Span {
-            width: widths[axis] + odd,
+            width: width + odd,
             centre,
         }
     });
@@ -268,10 +203,7 @@ pub fn zero_measurement(rng: &mut Rng, package: &Package) -> ZeroMeasurement {
     feature.kind += FIRST_KIND;
     ZeroMeasurement {
         feature,
-        offset,
-        tsa: match rng.chance(2) {
-            true => rng.pick(&[-1, LIMIT + 1]),
-            false => tsa,
-        },
+        offset: store_number(rng, OFFSETS as i64),
+        tsa,
     }
 }

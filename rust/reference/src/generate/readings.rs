@@ -62,10 +62,7 @@ fn bits_near(rng: &mut Rng, position: i64) -> u32 {
         _ => rng.between(-499, 499) as f64 / 1_000.0,
     };
     let millimetres = (position as f64 + part) / 10_000.0;
-    match (millimetres as f32).to_bits() {
-        0 => rng.pick(&[0, SIGN]),
-        bits => bits,
-    }
+    (millimetres as f32).to_bits()
 }
 
 /// The bits of a float near this position that is just half a unit off any:
@@ -102,7 +99,7 @@ fn raw_axes(feature: &Feature) -> Vec<usize> {
     let axis = axis_index(feature.axis);
     let kind = Kind::ALL.get(feature.kind.rem_euclid(100) as usize);
     match kind {
-        Some(Kind::Hole | Kind::Shaft | Kind::Pocket | Kind::Boss) => vec![0, 0, 1, 1],
+        Some(Kind::Hole | Kind::Shaft) => vec![0, 0, 1, 1],
         Some(Kind::Groove | Kind::Web) => vec![axis, axis],
         _ => vec![axis],
     }

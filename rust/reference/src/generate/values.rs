@@ -3,18 +3,17 @@
 use super::rng::Rng;
 
 /// Every number of the paper that bounds an argument.
-const BOUNDARIES: [i64; 25] = [
+const BOUNDARIES: [i64; 24] = [
     0,
     1,
     2,
     3,
     4,
     5,
-    6,
     20,
     32,
     100,
-    106,
+    104,
     1_000,
     -32_768,
     32_767,

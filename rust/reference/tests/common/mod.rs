@@ -2,7 +2,7 @@
 #![allow(dead_code)] // each test uses its own part of it
 
 use reference::line::call_of;
-use reference::{Answer, Feature, Package, Records};
+use reference::{Answer, Package, Records};
 
 /// A T line's fields: a groove on axis 1, D = r2 - r1 - setpoint = 0, with the
 /// limits of the paper's worked values.
@@ -12,14 +12,6 @@ pub const GROOVE: [i64; 21] = [
 
 /// A Z line's fields: a groove on axis 1 whose centre (h) is 1000, as set.
 pub const ZERO_GROOVE: [i64; 13] = [103, 1, 1, 0, 1000, 500, 0, 0, 1000, 0, 0, 2, 1000];
-
-/// A T line's fields: a pocket of 1000 by 600, each width as set.
-pub const POCKET: [i64; 22] = [
-    5, 1, 1, 0, 1000, 0, 0, 0, 1000, 0, 600, 4, 0, 2, 5, 20, 100, 150, -150, 300, 1000, 600,
-];
-
-/// A Z line's fields: a pocket of 1000 by 600 whose centres are as set.
-pub const ZERO_POCKET: [i64; 14] = [105, 1, 1, 0, 1000, 500, 300, 0, 1000, 0, 600, 2, 1000, 600];
 
 /// A C line's fields: t = 300.
 pub const CALIBRATION: [i64; 7] = [1, 1, 0, 1000, 700, 10, 500];
@@ -49,8 +41,6 @@ pub mod at {
     pub const TLL: usize = 18;
     pub const TDIF: usize = 19;
     pub const TSA: usize = 20;
-    pub const ORDINATE: usize = 21;
-    pub const ZERO_ORDINATE: usize = 13;
 }
 
 /// All probes calibrated with triggers of 0, so that surfaces are raws.
@@ -72,23 +62,6 @@ pub fn with<const N: usize>(mut fields: [i64; N], changes: &[(usize, i64)]) -> [
 /// The answer of a line's call.
 pub fn call(package: &mut Package, letter: char, fields: &[i64]) -> Answer {
     package.apply(&call_of(letter, fields).expect("fields of a line"))
-}
-
-/// The low and high surface on both axes of a hole, shaft or rectangle whose
-/// measurement is done: "A surface is raw + s·t."
-pub fn surfaces(feature: &Feature, package: &Package) -> [[i64; 2]; 2] {
-    let inside = [1, 5].contains(&(feature.kind % 100));
-    let surface = |axis: usize, high: bool| {
-        let negative = high != inside;
-        // "twice the axis, less one for the negative direction"
-        let place = 2 * (axis + 1) - usize::from(negative);
-        let sign = if negative { -1 } else { 1 };
-        let records = package.records();
-        let trigger = records.trigger(feature.probe as usize - 1, place - 1);
-        let raw = &feature.raws[2 * axis + usize::from(high)];
-        raw.position(axis).expect("a call that is done") + sign * trigger
-    };
-    [0, 1].map(|axis| [false, true].map(|high| surface(axis, high)))
 }
 
 /// A job's output on a package.
