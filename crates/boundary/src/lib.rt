@@ -1,4 +1,6 @@
 // The calls for C: each hands on to the call in place, on the area that the caller lends.
+#![tactic(auto)]
+
 ghost use Rattle.std.specs.Prelude.{◌≡◌};
 ghost use Rattle.rules.specs.Calibration.{calibration, reported};
 ghost use Rattle.rules.specs.Calls.{set_empirical, set_wear, set_offset, calibrate, calibrate_reading, load};

@@ -1,4 +1,6 @@
 // The branch and its number. Document 01, 'Tolerance, mean, correction'.
+#![tactic(auto)]
+
 ghost use Rattle.std.specs.Prelude.{◌≡◌, ◌≤◌, nat_abs};
 ghost use Rattle.rules.specs.Tool.{branch_of, branch_number};
 

@@ -1,4 +1,6 @@
 // A calibration, in place on the area that the caller lends. Document 01, 'Calibration'.
+#![tactic(auto)]
+
 ghost use Rattle.std.specs.Prelude.{◌≡◌};
 ghost use Rattle.rules.specs.Calls.{calibrate};
 ghost use Rattle.area.specs.Called.{unmeasured, called};

@@ -1,4 +1,6 @@
 // The calibration of one direction of a probe. Document 01, 'Calibration'.
+#![tactic(auto)]
+
 ghost use Rattle.std.specs.Prelude.{◌≡◌, true, ◌≤◌, ◌%◌};
 ghost use Rattle.rules.specs.Refusals.{first};
 ghost use Rattle.rules.specs.Probes.{place_of, mark};

@@ -1,4 +1,6 @@
 // The tests of what a calibration is given. Document 01, 'Calibration'.
+#![tactic(auto)]
+
 ghost use Rattle.std.specs.Prelude.{◌≡◌};
 ghost use Rattle.rules.specs.Refusals.{first};
 ghost use Rattle.rules.specs.Calibration.{calibration_arguments, calibration_numbers, calibration_positions, calibration_limits};

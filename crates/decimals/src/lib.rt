@@ -1,4 +1,6 @@
 // Numbers written into a lent buffer. Document 01, 'Job files'.
+#![tactic(auto)]
+
 ghost use Rattle.std.specs.Prelude.{◌≡◌, ◌∷◌, [], ◌+◌, ◌≤◌, length};
 ghost use Rattle.lists.specs.Written.{written};
 ghost use Rattle.decimals.specs.Decimals.{decimal, signed_decimal};

@@ -1,4 +1,6 @@
 // The decision in a branch: correction and mean. Document 01, 'Tolerance, mean, correction'.
+#![tactic(auto)]
+
 ghost use Rattle.std.specs.Prelude.{◌≡◌, ◌≤◌, ◌-◌, get_or, pos, nat_abs};
 ghost use Rattle.rules.specs.Tool.{branch_number, decided_by};
 

@@ -1,4 +1,6 @@
 // What a measurement comes to. Document 01, 'Tolerance, mean, correction' and 'Zero offset kinds'.
+#![tactic(auto)]
+
 ghost use Rattle.std.specs.Prelude.{◌≡◌, ◌≤◌, nat_abs};
 ghost use Rattle.rules.specs.Sizes.{difference};
 ghost use Rattle.rules.specs.Results.{tool_evaluation, zero_evaluation};

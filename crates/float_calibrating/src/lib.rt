@@ -1,4 +1,6 @@
 // Calibrations with a reading, in place on a lent area: a report becomes the position that it gives, or 13 refuses it. Request 2026-01.
+#![tactic(auto)]
+
 ghost use Rattle.std.specs.Prelude.{◌≡◌, pos};
 ghost use Rattle.rules.specs.Calibration.{calibration_with, reported};
 ghost use Rattle.rules.specs.Calls.{calibrate_reading};

@@ -1,4 +1,6 @@
 // Measurements with readings, in place on a lent area: reports become the positions that they give, or 13 refuses them. Request 2026-01.
+#![tactic(auto)]
+
 ghost use Rattle.std.specs.Prelude.{◌≡◌};
 ghost use Rattle.rules.specs.Measuring.{lent};
 ghost use Rattle.rules.specs.Tool.{tool_with};

@@ -1,4 +1,6 @@
 // The refusal of a call whose floats are not good. Request 2026-01.
+#![tactic(auto)]
+
 ghost use Rattle.std.specs.Prelude.{◌≡◌, cond, eqb};
 
 use package::refusals::{BAD_FLOAT, NO_SUCH_NUMBER};

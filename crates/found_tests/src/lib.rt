@@ -1,4 +1,6 @@
 // What of the records allows a measurement with tool offset, by what it found. Document 01, 'Tolerance, mean, correction'.
+#![tactic(auto)]
+
 ghost use Rattle.std.specs.Prelude.{◌≡◌};
 ghost use Rattle.rules.specs.Tool.{tool_kind_of, found_tests};
 ghost use Rattle.evaluation.specs.FoundSmall.{FoundSmall};

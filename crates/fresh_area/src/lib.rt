@@ -1,4 +1,6 @@
 // The fresh package, in place on the area that the caller lends. Document 01, 'Units and stores'.
+#![tactic(auto)]
+
 ghost use Rattle.std.specs.Prelude.{◌≡◌};
 ghost use Rattle.area.specs.Called.{unmeasured, fresh_called};
 

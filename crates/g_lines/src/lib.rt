@@ -1,1 +1,2 @@
 // Definitions and theorems about the lines of letter G; no code.
+#![tactic(auto)]

@@ -1,4 +1,6 @@
 // How a zero offset grows on its axes. Document 01, 'Zero offset kinds'.
+#![tactic(auto)]
+
 ghost use Rattle.std.specs.Prelude.{◌≡◌, ◌≤◌, nat_abs};
 ghost use Rattle.rules.specs.Sizes.{pair_in};
 ghost use Rattle.rules.specs.Zero.{corrects, growth};

@@ -1,4 +1,6 @@
 // The bits of a float, in hexadecimal digits at the front of a field. Request 2026-01.
+#![tactic(auto)]
+
 ghost use Rattle.std.specs.Prelude.{◌≡◌, ◌≤◌};
 ghost use Rattle.text.specs.Pieces.{HasLine, field};
 ghost use Rattle.text.specs.Reading.{Reads};

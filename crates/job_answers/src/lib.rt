@@ -1,4 +1,6 @@
 // The answer of a line, and how it is written. Document 01, 'Job files'.
+#![tactic(auto)]
+
 ghost use Rattle.std.specs.Prelude.{◌≡◌, ◌+◌, ◌≤◌, length};
 ghost use Rattle.lists.specs.Written.{written};
 ghost use Rattle.job_answers.specs.LineAnswers.{whole_field, signed_field, evaluation_text, row_text};

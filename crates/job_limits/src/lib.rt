@@ -1,4 +1,6 @@
 // Why a job does not run. Document 01, 'Alarm numbers'.
+#![tactic(auto)]
+
 ghost use Rattle.std.specs.Prelude.{◌≡◌};
 ghost use Rattle.job_limits.specs.JobRules.{job_refusal};
 

@@ -1,4 +1,6 @@
 // What the job program says of a job that it cannot run: one line on standard error, what is wrong and what to do.
+#![tactic(auto)]
+
 ghost use Rattle.std.specs.Prelude.{◌≡◌, ◌≤◌, length};
 
 use job_limits::JOB_LIMIT;

@@ -1,4 +1,6 @@
 // The tests by kind on the arguments, which both ways of measuring share: numbers, positions. Document 01, 'Measured sizes' and 'Alarm numbers'.
+#![tactic(auto)]
+
 ghost use Rattle.std.specs.Prelude.{◌≡◌, [], ◌∷◌};
 ghost use Rattle.lists.specs.Each.{every};
 ghost use Rattle.rules.specs.Stores.{position_range, width_range};

@@ -1,4 +1,6 @@
 // The kinds of measurement, and the surfaces that each touches. Document 01, 'Measured sizes'.
+#![tactic(auto)]
+
 ghost use Rattle.std.specs.Prelude.{◌≡◌, Bool, [], ◌∷◌};
 ghost use Rattle.lists.specs.Each.{Each};
 ghost use Rattle.package.specs.declared.found.Form.TheVariants.{Single, Double};

@@ -1,4 +1,6 @@
 // Measurements by a lent list of numbers, in the order of the fields of a T or Z line, on the area that the caller lends.
+#![tactic(auto)]
+
 ghost use Rattle.std.specs.Prelude.{◌≡◌};
 ghost use Rattle.measuring.specs.Reply.{reply, tool_exported, zero_exported};
 

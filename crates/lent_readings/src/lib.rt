@@ -1,4 +1,6 @@
 // Measurements by a lent list of numbers and floats, on the area that the caller lends. Request 2026-01.
+#![tactic(auto)]
+
 ghost use Rattle.std.specs.Prelude.{◌≡◌};
 ghost use Rattle.measuring.specs.Reply.{reply};
 ghost use Rattle.lent_readings.specs.LentMeasured.{tool_readings_exported, zero_readings_exported};

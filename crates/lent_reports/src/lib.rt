@@ -1,4 +1,6 @@
 // The readings of a measurement that C lends as numbers and floats. Request 2026-01.
+#![tactic(auto)]
+
 ghost use Rattle.std.specs.Prelude.{◌≡◌, ◌+◌, ◌≤◌, length};
 ghost use Rattle.lent_reports.specs.LentReports.{report_floats, marked, report_at, lent_reading, lent_readings, tool_reported, zero_reported};
 

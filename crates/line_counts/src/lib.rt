@@ -1,4 +1,6 @@
 // How many lines a text has. Document 01, 'Job files'.
+#![tactic(auto)]
+
 ghost use Rattle.std.specs.Prelude.{◌≡◌, ◌≤◌, length};
 ghost use Rattle.text.specs.Pieces.{lines};
 

@@ -1,4 +1,6 @@
 // The mean after one more deviation. Document 01, 'Tolerance, mean, correction'.
+#![tactic(auto)]
+
 ghost use Rattle.std.specs.Prelude.{◌≡◌, true, ◌≤◌, pos, nat_abs};
 ghost use Rattle.signed.specs.Ranges.{within};
 ghost use Rattle.rules.specs.Mean.{mean_change, mean_step};

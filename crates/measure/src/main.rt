@@ -1,4 +1,6 @@
 // The job program: runs a job on a fresh package and prints the answers of its lines. Document 01, 'Job files'.
+#![tactic(auto)]
+
 use area::AREA;
 use fresh_area::fresh;
 use job_limits::{JOB_LIMIT, LINE_ROOM, LINES_LIMIT};

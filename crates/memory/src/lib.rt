@@ -1,4 +1,6 @@
 // The memory block, read into the area that the caller lends and written from it. Document 01, 'Memory block'.
+#![tactic(auto)]
+
 ghost use Rattle.std.specs.Prelude.{◌≡◌, map, ◌+◌, ◌≤◌, length};
 ghost use Rattle.lists.specs.Written.{written};
 ghost use Rattle.rules.specs.Block.{words};

@@ -1,4 +1,6 @@
 // An axis of an offset: its growth held against TSA, what it is after, and whether that is in range. Document 01, 'Zero offset kinds'.
+#![tactic(auto)]
+
 ghost use Rattle.std.specs.Prelude.{◌≡◌, true, ◌≤◌, nat_abs, ◌+ℤ◌};
 ghost use Rattle.rules.specs.Stores.{axis_number, offset_range};
 ghost use Rattle.rules.specs.Zero.{growth, within_twice_tsa, axis_of};

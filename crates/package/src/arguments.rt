@@ -1,7 +1,7 @@
 // What the calls are given.
 
 // What a calibration is given.
-#[derive(Drop)]
+#[derive(Clone, Copy)]
 pub struct Calibration {
     pub probe: i64,
     pub axis: i64,
@@ -13,7 +13,7 @@ pub struct Calibration {
 }
 
 // The raws of a measurement.
-#[derive(Drop)]
+#[derive(Clone, Copy)]
 pub struct Raws {
     pub r1: i64,
     pub r2: i64,
@@ -22,7 +22,7 @@ pub struct Raws {
 }
 
 // What both ways of measuring are given beside their raws: c1 and c2 are set centres.
-#[derive(Drop)]
+#[derive(Clone, Copy)]
 pub struct Probing {
     pub kind: i64,
     pub probe: i64,
@@ -33,7 +33,7 @@ pub struct Probing {
     pub c2: i64,
 }
 
-#[derive(Drop)]
+#[derive(Clone, Copy)]
 pub struct Limits {
     pub tzl: i64,
     pub tmv: i64,
@@ -44,7 +44,7 @@ pub struct Limits {
 }
 
 // What a measurement with tool offset is given; k is the weighting factor.
-#[derive(Drop)]
+#[derive(Clone, Copy)]
 pub struct ToolMeasurement {
     pub probing: Probing,
     pub raws: Raws,
@@ -56,7 +56,7 @@ pub struct ToolMeasurement {
 }
 
 // What a measurement with zero offset is given.
-#[derive(Drop)]
+#[derive(Clone, Copy)]
 pub struct ZeroMeasurement {
     pub probing: Probing,
     pub raws: Raws,
@@ -65,7 +65,7 @@ pub struct ZeroMeasurement {
 }
 
 // X, Y and Z as a float box reports them together, in millimetres.
-#[derive(Drop)]
+#[derive(Clone, Copy)]
 pub struct Report {
     pub x: f32,
     pub y: f32,
@@ -73,14 +73,14 @@ pub struct Report {
 }
 
 // What was read at a touch: a whole position in u, or a report.
-#[derive(Drop)]
+#[derive(Clone, Copy)]
 pub enum Reading {
     Whole(i64),
     Reported(Report),
 }
 
 // The readings of a measurement.
-#[derive(Drop)]
+#[derive(Clone, Copy)]
 pub struct Readings {
     pub r1: Reading,
     pub r2: Reading,
@@ -89,7 +89,7 @@ pub struct Readings {
 }
 
 // What a calibration is given, with a reading.
-#[derive(Drop)]
+#[derive(Clone, Copy)]
 pub struct CalibrationReading {
     pub probe: i64,
     pub axis: i64,
@@ -101,7 +101,7 @@ pub struct CalibrationReading {
 }
 
 // What a measurement with tool offset is given, with readings.
-#[derive(Drop)]
+#[derive(Clone, Copy)]
 pub struct ToolReadings {
     pub probing: Probing,
     pub readings: Readings,
@@ -113,7 +113,7 @@ pub struct ToolReadings {
 }
 
 // What a measurement with zero offset is given, with readings.
-#[derive(Drop)]
+#[derive(Clone, Copy)]
 pub struct ZeroReadings {
     pub probing: Probing,
     pub readings: Readings,

@@ -11,7 +11,7 @@ pub const UNDERSIZE: u32 = 2;
 pub const ZERO_BRANCH: u32 = 6;
 
 // What a kind of measurement touches: one surface, a pair on axis 1 or 2, or a pair on each of both.
-#[derive(Drop)]
+#[derive(Clone, Copy)]
 pub enum Form {
     Plane,
     Single,
@@ -19,14 +19,14 @@ pub enum Form {
 }
 
 // A kind of measurement: inside kinds touch low in the negative direction, outside kinds in the positive.
-#[derive(Drop)]
+#[derive(Clone, Copy)]
 pub struct Kind {
     pub form: Form,
     pub inside: bool,
 }
 
 // The branches of a measurement with tool offset, by document 01's numbers.
-#[derive(Drop)]
+#[derive(Clone, Copy)]
 pub enum Branch {
     One,
     Two,
@@ -36,7 +36,7 @@ pub enum Branch {
 }
 
 // What a pair measures: width in u, centre and shift in h, and its set centre in u. All 0 where none is measured.
-#[derive(Drop)]
+#[derive(Clone, Copy)]
 pub struct Pair {
     pub width: i64,
     pub centre: i64,
@@ -45,14 +45,14 @@ pub struct Pair {
 }
 
 // A measured size, and the setpoint that it is held against.
-#[derive(Drop)]
+#[derive(Clone, Copy)]
 pub struct Held {
     pub size: i64,
     pub setpoint: i64,
 }
 
 // The measured size with its setpoint, and the pairs on axes 1 and 2.
-#[derive(Drop)]
+#[derive(Clone, Copy)]
 pub struct Sizes {
     pub held: Held,
     pub abscissa: Pair,
@@ -60,7 +60,7 @@ pub struct Sizes {
 }
 
 // What of the records allows a measurement: directions calibrated, pairs with a width, limits kept, ranges kept.
-#[derive(Drop)]
+#[derive(Clone, Copy)]
 pub struct Tests {
     pub calibrated: bool,
     pub pairs: bool,
@@ -70,7 +70,7 @@ pub struct Tests {
 }
 
 // The branch of a deviation, the correction c and the mean that it leaves.
-#[derive(Drop)]
+#[derive(Clone, Copy)]
 pub struct Decision {
     pub branch: Branch,
     pub correction: i64,
@@ -79,7 +79,7 @@ pub struct Decision {
 
 // What a measurement with tool offset finds: whether its directions are calibrated, its sizes, the EV, D, what is decided on it, and the
 // wear that is corrected, after it.
-#[derive(Drop)]
+#[derive(Clone, Copy)]
 pub struct Found {
     pub calibrated: bool,
     pub sizes: Sizes,
@@ -90,7 +90,7 @@ pub struct Found {
 }
 
 // The records that a measurement with tool offset reads: its probe, the empirical and mean values that it names, 0 for none, and its tool's wears.
-#[derive(Drop)]
+#[derive(Clone, Copy)]
 pub struct ToolRecords {
     pub probe: Probe,
     pub ev: i16,
@@ -99,14 +99,14 @@ pub struct ToolRecords {
 }
 
 // The records that a measurement with zero offset reads.
-#[derive(Drop)]
+#[derive(Clone, Copy)]
 pub struct ZeroRecords {
     pub probe: Probe,
     pub offset: Offset,
 }
 
 // What a calibration leaves of its direction's trigger and its probe's status, with its refusal.
-#[derive(Drop)]
+#[derive(Clone, Copy)]
 pub struct Calibrated {
     pub trigger: i32,
     pub status: u32,
@@ -114,7 +114,7 @@ pub struct Calibrated {
 }
 
 // What a measurement comes to: branch, verdict, the deviation of OVR[16] and the correction c.
-#[derive(Drop)]
+#[derive(Clone, Copy)]
 pub struct Evaluation {
     pub branch: u32,
     pub verdict: u32,
@@ -123,7 +123,7 @@ pub struct Evaluation {
 }
 
 // A measurement's refusal number, 0 when done, and what it comes to.
-#[derive(Drop)]
+#[derive(Clone, Copy)]
 pub struct Answer {
     pub refusal: u32,
     pub evaluation: Evaluation,

@@ -1,4 +1,6 @@
 // The records of a lent area that a call reads.
+#![tactic(auto)]
+
 ghost use Rattle.std.specs.Prelude.{◌≡◌, true, ◌≤◌, ◌<◌, length};
 ghost use Rattle.rules.specs.Stores.{probe_number, tool_number, offset_number, probes, tools, offsets, at};
 ghost use Rattle.rules.specs.Passed.{ToolNumbers, ZeroNumbers};

@@ -1,4 +1,6 @@
 // The order of the refusals that the records give. Document 01, 'Alarm numbers'.
+#![tactic(auto)]
+
 ghost use Rattle.std.specs.Prelude.{◌≡◌};
 ghost use Rattle.rules.specs.Refusals.{first};
 ghost use Rattle.rules.specs.Measuring.{record_rules};

@@ -1,5 +1,7 @@
 // The tests by kind on what is read and measured, which both ways of measuring share: calibrated directions, widths.
 // Document 01, 'Measured sizes' and 'Alarm numbers'.
+#![tactic(auto)]
+
 ghost use Rattle.std.specs.Prelude.{◌≡◌, true, [], ◌∷◌};
 ghost use Rattle.lists.specs.Each.{every};
 ghost use Rattle.rules.specs.Probes.{calibrated_in};

@@ -1,4 +1,6 @@
 // The 42 numbers of a measurement that is done. Document 01, 'Result array'.
+#![tactic(auto)]
+
 ghost use Rattle.std.specs.Prelude.{◌≡◌};
 ghost use Rattle.rules.specs.Tool.{tool_kind_of};
 ghost use Rattle.rules.specs.Zero.{zero_kind_of};

@@ -1,4 +1,6 @@
 // The numbers of the result array that both ways of measuring have. Document 01, 'Result array'.
+#![tactic(auto)]
+
 ghost use Rattle.std.specs.Prelude.{◌≡◌, ◌≤◌, pos, nat_abs};
 ghost use Rattle.rules.specs.Kinds.{by_form};
 ghost use Rattle.rules.specs.Results.{array, size_entries};

@@ -1,4 +1,6 @@
 // A status read, in place on the area that the caller lends. Document 01, 'Calibration'.
+#![tactic(auto)]
+
 ghost use Rattle.std.specs.Prelude.{◌≡◌};
 ghost use Rattle.status_reading.specs.StatusRead.{no_status, status_called};
 

@@ -1,4 +1,6 @@
 // Measurements with tool offset, in place on a lent area. Document 01, 'Tolerance, mean, correction'.
+#![tactic(auto)]
+
 ghost use Rattle.std.specs.Prelude.{◌≡◌, true, [], ◌∷◌, length};
 ghost use Rattle.rules.specs.Stores.{value_range, means, tools};
 ghost use Rattle.rules.specs.Changes.{write};

@@ -1,4 +1,6 @@
 // The refusals of a measurement with tool offset that its arguments give. Document 01, 'Tolerance, mean, correction' and 'Alarm numbers'.
+#![tactic(auto)]
+
 ghost use Rattle.std.specs.Prelude.{◌≡◌};
 ghost use Rattle.rules.specs.Refusals.{first};
 ghost use Rattle.rules.specs.Tool.{tool_kind_of, tool_numbers, tool_arguments};

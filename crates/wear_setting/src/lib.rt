@@ -1,4 +1,6 @@
 // A tool's wears set, in place on the area that the caller lends. Document 01, 'Units and stores'.
+#![tactic(auto)]
+
 ghost use Rattle.std.specs.Prelude.{◌≡◌};
 ghost use Rattle.rules.specs.Calls.{set_wear};
 ghost use Rattle.area.specs.Called.{unmeasured, called};

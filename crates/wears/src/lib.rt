@@ -1,4 +1,6 @@
 // The wear that a correction changes. Document 01, 'Tolerance, mean, correction'.
+#![tactic(auto)]
+
 ghost use Rattle.std.specs.Prelude.{◌≡◌, true, cond, ◌≤◌, pos, nat_abs, ◌+ℤ◌, ◌*ℤ◌};
 ghost use Rattle.signed.specs.Ranges.{minus};
 ghost use Rattle.rules.specs.Stores.{wear_range};

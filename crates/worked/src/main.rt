@@ -22,6 +22,8 @@
 //   part,number,k: refusal branch verdict D d MV m c c radius w
 //   reports,marks,<12 numbers>: T and Z with readings: which raws are reports, and the bits of X, Y and Z of each raw in decimals
 //   report,<3 numbers>: C with the bits of X, Y and Z in place of its raw
+#![tactic(auto)]
+
 mod measure;
 mod print;
 mod read;

@@ -1,4 +1,6 @@
 // Measurements with zero offset, in place on a lent area. Document 01, 'Zero offset kinds'.
+#![tactic(auto)]
+
 ghost use Rattle.std.specs.Prelude.{◌≡◌, [], ◌∷◌, length};
 ghost use Rattle.rules.specs.Stores.{offsets};
 ghost use Rattle.rules.specs.Changes.{write};

@@ -1,4 +1,6 @@
 // The kind of a measurement with zero offset, and the refusals that its arguments give. Document 01, 'Zero offset kinds' and 'Alarm numbers'.
+#![tactic(auto)]
+
 ghost use Rattle.std.specs.Prelude.{◌≡◌};
 ghost use Rattle.rules.specs.Kinds.{zero_kind};
 ghost use Rattle.rules.specs.Refusals.{first};

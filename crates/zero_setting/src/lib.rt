@@ -1,4 +1,6 @@
 // A zero offset set, in place on the area that the caller lends. Document 01, 'Units and stores'.
+#![tactic(auto)]
+
 ghost use Rattle.std.specs.Prelude.{◌≡◌};
 ghost use Rattle.rules.specs.Calls.{set_offset};
 ghost use Rattle.area.specs.Called.{unmeasured, called};

@@ -1,0 +1,15 @@
+use mathlib.Core.Path.{◌≡◌, ◌∙◌, ap}
+use Prim.Native.Nat.{◌+◌, ◌-◌, ◌^◌, ◌<◌, ◌≤◌}
+use native.Mathlib.Omega.{arith}
+use borrow.Author.Rules.{rules}
+use lib.ListN.{length, length-set}
+use Rattle.decimals.specs.Decimals.{decimal}
+use Rattle.decimals.specs.DecimalLaws.{one_digit, digit_more}
+use Rattle.decimals.proofs.Laws.{Behind, none_yet, within, same_size, next_digit, first_digit}
+use Rattle.decimals.proofs.put_whole.Given as goal
+
+abbrev pub invariant-loop-m : goal.invariant-loop-m
+invariant-loop-m l = (l.at + length (decimal l.n) ≤ length l.initial.out) × (l.m ≤ l.n) × Behind l.initial.out l.at l.n l.out l.m l.k
+
+abbrev pub decreases-loop-m : goal.decreases-loop-m
+decreases-loop-m l = l.m
