@@ -1,8 +1,8 @@
 -- "A measurement reads only its own ..": two packages that agree on the records that a call reads agree, once it is done, on every record that it writes,
 -- and on every other on which they agreed before.
-use Rattle.std.specs.Prelude.{◌≡◌, refl, Bool, true, false, ℕ, zero, suc, eqb, ℤ, pos, negsuc, length, get_or, set}
+use Rattle.std.specs.Prelude.{◌≡◌, refl, Bool, true, false, cond, ℕ, zero, suc, eqb, ℤ, pos, negsuc, length, get_or, set}
 use Rattle.std.proofs.Math.Path.{sym}
-use Rattle.std.proofs.Common.{subst, ◌∙◌, arith, eqb-true}
+use Rattle.std.proofs.Common.{ap, subst, ◌∙◌, arith, eqb-true}
 use Rattle.std.proofs.Math.Bool.{and-eq-true_iff}
 use mathlib.Core.List.{List, [], ◌∷◌}
 use Rattle.signed.specs.Ranges.{eq_z}
@@ -59,12 +59,17 @@ all_same (c ∷ cs) p q h k f g s n a =
     go false e r = one_keeps p c s n (e, tt) ∙ a (e, r) ∙ sym (one_keeps q c s n (e, tt))
 
 -- ---- every call
+after_done : (p : Package) (c : Call) → refusal p c ≡ 0 → step p c ≡ made_all p (changes p c)
+unfolding step
+after_done p c done = ap (λ (n : ℕ). cond (eqb n 0) (made_all p (changes p c)) p) done
+
 module _ (p q : Package) (c : Call) (h : PackageKnown typed p) (k : PackageKnown typed q) (b : Bytes (meaning c).given)
     (same : (meaning c).read p ≡ (meaning c).read q) (done : refusal p c ≡ 0) where
   pub same_left : (s : StoreName) (n : ℤ) → (Each (λ c. names c s n ≡ false) (changes p c) → at p s n ≡ at q s n) → at (step p c) s n ≡ at (step q c) s n
-  unfolding step
   same_left s n a =
       let too : refusal q c ≡ 0 = sym (same_refusal p q c same) ∙ done in
-      rw (done, too, ← same_changes p q c same)
-      (all_same (changes p c) p q h k (fits typed p c done b h)
-      (subst (λ (cs : List Change). AllFit typed q cs) (sym (same_changes p q c same)) (fits typed q c too b k)) s n a)
+      ap (λ (x : Package). at x s n) (after_done p c done)
+      ∙ all_same (changes p c) p q h k (fits typed p c done b h)
+      (subst (λ (cs : List Change). AllFit typed q cs) (sym (same_changes p q c same)) (fits typed q c too b k)) s n a
+      ∙ ap (λ (cs : List Change). at (made_all q cs) s n) (same_changes p q c same)
+      ∙ sym (ap (λ (x : Package). at x s n) (after_done q c too))
