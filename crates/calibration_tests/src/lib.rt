@@ -32,6 +32,7 @@ fn limits_ok(a: Calibration) -> bool
 }
 
 // The first refusal that the arguments alone give.
+#[tactic(auto, unfolding(rules::specs::Calibration::calibration_arguments_with))]
 pub fn calibration_refusal(a: Calibration) -> u32
     ensures { result ≡ first (calibration_arguments a) }
 {

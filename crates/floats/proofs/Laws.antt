@@ -6,7 +6,7 @@ use native.Mathlib.Nat.{mul_assoc, mul_comm, add-mul, mul-le-mul, mul-le-mul_rig
 use native.Mathlib.Omega.{arith}
 use borrow.Author.Tests.{lt-ltb, lt-leb, le-leb, leb-true, leb-false, ne_eqb}
 use lib.Dec.{leb, eqb, T}
-use lib.IntN.{ℤ, pos, negsuc, ◌-ℤ◌}
+use lib.IntN.{pos, negsuc, ◌-ℤ◌}
 use lib.Pow.{pow-add, pow_pos, pow_mono}
 use lib.Ieee.{Float, nan, inf, fin, up, down, odd, of_fields, of_bits, ne, is_nan, binary32}
 use lib.Ieee.Exact.{HasValue, odd_sign}

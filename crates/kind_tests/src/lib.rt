@@ -13,6 +13,7 @@ use package::limits::{AXIS_COUNT, POSITION_LIMIT, PROBE_COUNT};
 use signed::in_range;
 
 // Whether the numbers that a kind uses are numbers of their stores.
+#[tactic(auto, unfolding(rules::specs::Sizes::numbers_ok))]
 pub fn numbers_ok(k: Kind, a: Probing) -> bool
     ensures { result ≡ numbers_ok k a }
 {

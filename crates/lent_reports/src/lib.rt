@@ -42,6 +42,7 @@ fn lent_reading(reported: bool, whole: i64, report: Report) -> Reading
 }
 
 // The readings by whole positions, floats, and which raws are reports. No call of a user.
+#[tactic(auto, unfolding(crate::specs::LentReports::lent_readings))]
 pub fn lent_readings(q: Raws, floats: &[f32], reported: u32) -> Readings
     requires { length floats.now ≡ report_floats }
     ensures { result ≡ lent_readings q floats.now reported }

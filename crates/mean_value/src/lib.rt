@@ -8,6 +8,7 @@ ghost use Rattle.rules.specs.Mean.{mean_change, mean_step};
 use signed::rounded_quotient;
 
 // The step of the mean m at the deviation d with weighting factor k: (m - d) / k rounded, halves away from zero.
+#[tactic(auto, unfolding(rules::specs::Mean::mean_change, rules::specs::Mean::mean_rounding, signed::specs::Rounding::rounded_quotient))]
 fn mean_change(m: i64, d: i64, k: i64) -> i64
     requires m_bound { (nat_abs m ≤ 100000000) × (nat_abs d ≤ 100000000) }
     requires k_value { within (pos 1) (pos 1000) k ≡ true }

@@ -2,7 +2,7 @@
 use mathlib.Core.Path.{◌≡◌, sym, ◌∙◌}
 use mathlib.Core.Bool.{true}
 use mathlib.Core.List.{List}
-use Prim.Native.Nat.{ℕ, ◌<◌, ◌≤◌}
+use Prim.Native.Nat.{ℕ, ◌<◌}
 use native.Mathlib.Omega.{arith}
 use lib.IntN.{ℤ}
 use lib.ListN.{length}
@@ -12,9 +12,9 @@ use mir.Facts.{to_z-of_z}
 use lib.Signed.{mag}
 use Rattle.signed.specs.CodeLaws.{read_as}
 use Rattle.rules.specs.Stores.{StoreName, at}
-use Rattle.layout.specs.Layout.{end, named, record_of}
+use Rattle.layout.specs.Layout.{named, record_of}
 use Rattle.area.specs.Table.{area_length, section_of, number, record_from, held}
-use Rattle.area.specs.RecordLaws.{section_in, at_held}
+use Rattle.area.specs.RecordLaws.{at_held}
 
 -- a number of a store, as the code holds it
 pub record Known (area : List ℤ) (s : StoreName) (n : ℤ) : Type 0 where
@@ -26,11 +26,7 @@ module _ {area : List ℤ} {s : StoreName} {n : ℤ} (k : Known area s n) where
   pub held_at : record_from s (record_of (section_of s) area n) ≡ at (held area) s n
   held_at = sym (at_held area (omega (arith, k.whole)) s n k.named_in)
 
-  -- what `number_at` asks, and a number that it gave
-  pub asked : (j : ℕ) → j < (section_of s).width
-      → (end (section_of s) ≤ length area) × ((named (section_of s) (to_z w64 (of_z w64 n)) ≡ true) × (j < (section_of s).width))
-  asked j h = (section_in area (omega (arith, k.whole)) s, (rw (to_z-of_z k.fits) k.named_in, h))
-
+  -- a number that `number_at` gave
   pub given : (j : ℕ) {r : ℤ} → mag r < 2147483648 → r ≡ number (record_of (section_of s) area (to_z w64 (of_z w64 n))) j
       → to_z w32 (of_z w32 r) ≡ number (record_of (section_of s) area n) j
   given j {r} ok e = read_as w32 r ok ∙ (rw (to_z-of_z k.fits) at e)

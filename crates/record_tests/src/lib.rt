@@ -23,6 +23,7 @@ fn pair_calibrated(x: Probe, p: Across) -> bool
 }
 
 // Whether every direction that a measurement needs is calibrated. No call of a user.
+#[tactic(auto, unfolding(rules::specs::Sizes::calibrated_ok))]
 pub fn calibrated_ok(x: Probe, k: Kind, a: Probing) -> bool
     requires { numbers_ok k a ≡ true }
     ensures { result ≡ calibrated_ok x.status k a }
@@ -50,6 +51,7 @@ fn width_on(s: Sizes, n: i64) -> i64
 }
 
 // Whether every pair measured has its high surface above its low one.
+#[tactic(auto, unfolding(rules::specs::Sizes::pairs_ok))]
 pub fn widths_ok(k: Kind, a: Probing, s: Sizes) -> bool
     ensures { result ≡ pairs_ok k a s }
 {

@@ -27,6 +27,7 @@ fn tool_numbers_ok(k: Kind, a: ToolMeasurement) -> bool
 }
 
 // The first refusal that the arguments alone give; k is the measurement's kind. No call of a user.
+#[tactic(auto, unfolding(rules::specs::Tool::tool_arguments_with))]
 pub fn tool_refusal(k: Kind, a: ToolMeasurement) -> u32
     requires { k ≡ tool_kind_of a }
     ensures { result ≡ first (tool_arguments a) }

@@ -33,6 +33,7 @@ fn zero_numbers_ok(k: Kind, a: ZeroMeasurement) -> bool
 }
 
 // The first refusal that the arguments alone give; k is the measurement's kind. No call of a user.
+#[tactic(auto, unfolding(rules::specs::Zero::zero_arguments_with))]
 pub fn zero_refusal(k: Kind, a: ZeroMeasurement) -> u32
     requires { k ≡ zero_kind_of a }
     ensures { result ≡ first (zero_arguments a) }

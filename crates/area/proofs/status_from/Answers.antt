@@ -4,7 +4,6 @@ use Prim.Native.Nat.{◌≤◌}
 use native.Mathlib.Omega.{arith}
 use lib.IntN.{ℤ, pos, nat_abs}
 use lib.Signed.{◌≤ℤ◌, yes_non_neg}
-use borrow.Author.Rules.{rules}
 use Rattle.signed.specs.Differences.{ints, parts}
 use Rattle.signed.specs.RangeLaws.{within_is}
 use Rattle.signed.specs.CodeLaws.{read}
@@ -21,7 +20,7 @@ small = parts _ (λ a b. simp ints (omega arith))
 in_byte : (c : After-nearest_in) → (pos 0 ≤ℤ c.nearest_in.result) × (c.nearest_in.result ≤ℤ pos 255)
 in_byte c =
     within_is (pos 0) (pos 255) c.nearest_in.result
-    (nearest_in_range c.before.ranges.v (pos 0) (pos 255) refl refl c.nearest_in.ensures)
+    (nearest_in_range c.ranges.v (pos 0) (pos 255) refl refl c.nearest_in.ensures)
 
 pub overflow_cast-result : goal.overflow_cast-result
 overflow_cast-result c =
@@ -32,4 +31,4 @@ pub returns : goal.returns
 returns c =
     ap nat_abs
     (read c.nearest_in.result c.nearest_in.type_inv ∙
-    nearest_is c.before.ranges.v (pos 0) (pos 255) refl refl c.nearest_in.ensures)
+    nearest_is c.ranges.v (pos 0) (pos 255) refl refl c.nearest_in.ensures)

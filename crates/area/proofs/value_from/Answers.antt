@@ -2,7 +2,6 @@
 use mathlib.Core.Path.{refl, ◌∙◌}
 use lib.IntN.{pos}
 use mir.Syntax.{w16}
-use borrow.Author.Rules.{rules}
 use Rattle.signed.specs.Ranges.{minus}
 use Rattle.signed.specs.CodeLaws.{Cast, casts}
 use Rattle.area.proofs.Laws.{wide, nearest_is, nearest_in_range}
@@ -15,10 +14,10 @@ overflow_cast-v c = wide c.ranges.v
 narrow : (c : After-nearest_in) → Cast w16 c.nearest_in.result
 narrow c =
     casts w16 (minus 32768) (pos 32767) (record { sfits = c.nearest_in.type_inv }) tt tt
-    (nearest_in_range c.before.ranges.v (minus 32768) (pos 32767) refl refl c.nearest_in.ensures)
+    (nearest_in_range c.ranges.v (minus 32768) (pos 32767) refl refl c.nearest_in.ensures)
 
 pub overflow_cast-result : goal.overflow_cast-result
-overflow_cast-result c = (narrow c).ranges
+overflow_cast-result c = (narrow c).fits
 
 pub returns : goal.returns
-returns c = (narrow c).value ∙ nearest_is c.before.ranges.v (minus 32768) (pos 32767) refl refl c.nearest_in.ensures
+returns c = (narrow c).value ∙ nearest_is c.ranges.v (minus 32768) (pos 32767) refl refl c.nearest_in.ensures

@@ -1,7 +1,6 @@
 -- The numbers are those that it is given, each in the range of its type.
 use mir.Facts.{to_z-of_z}
-use borrow.Author.Rules.{rules}
 use Rattle.boundary.proofs.mezhtolik_set_empirical.Goals as goal
 
 pub returns : goal.returns
-returns c = let s = c.before.before.before in rw (to_z-of_z s.ranges.ev, to_z-of_z s.ranges.value) at c.before.set_empirical.ensures
+returns c = rw (to_z-of_z c.ranges.ev, to_z-of_z c.ranges.value) at c.set_empirical.ensures

@@ -1,9 +1,7 @@
-use mathlib.Core.Path.{◌≡◌, ap}
+use mathlib.Core.Path.{◌≡◌}
 use Prim.Native.Nat.{◌+◌, ◌≤◌}
-use native.Mathlib.Omega.{arith}
 use lib.ListN.{length}
 use Rattle.decimals.specs.Decimals.{decimal}
-use Rattle.decimals.specs.DecimalLaws.{one_digit, digit_more, decimal_length}
 use Rattle.decimals.proofs.digit_count.Given as goal
 
 abbrev pub invariant-loop-m : goal.invariant-loop-m

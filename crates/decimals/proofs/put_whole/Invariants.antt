@@ -1,11 +1,7 @@
-use mathlib.Core.Path.{◌≡◌, ◌∙◌, ap}
-use Prim.Native.Nat.{◌+◌, ◌-◌, ◌^◌, ◌<◌, ◌≤◌}
-use native.Mathlib.Omega.{arith}
-use borrow.Author.Rules.{rules}
-use lib.ListN.{length, length-set}
+use Prim.Native.Nat.{◌+◌, ◌≤◌}
+use lib.ListN.{length}
 use Rattle.decimals.specs.Decimals.{decimal}
-use Rattle.decimals.specs.DecimalLaws.{one_digit, digit_more}
-use Rattle.decimals.proofs.Laws.{Behind, none_yet, within, same_size, next_digit, first_digit}
+use Rattle.decimals.proofs.Laws.{Behind}
 use Rattle.decimals.proofs.put_whole.Given as goal
 
 abbrev pub invariant-loop-m : goal.invariant-loop-m

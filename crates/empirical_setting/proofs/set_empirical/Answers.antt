@@ -1,5 +1,5 @@
 -- By cases: a wrong area, a number or a value that its test refuses, or none; then the value is in its range, so that i32 holds it as it is.
-use mathlib.Core.Path.{◌≡◌, refl}
+use mathlib.Core.Path.{◌≡◌, refl, sym, ◌∙◌}
 use mathlib.Core.Bool.{true}
 use native.Mathlib.Omega.{arith}
 use lib.IntN.{pos}
@@ -7,7 +7,7 @@ use mir.Syntax.{w32}
 use mir.Facts.{to_z-of_z}
 use borrow.Author.Rules.{rules}
 use Rattle.signed.specs.Ranges.{minus}
-use Rattle.signed.specs.CodeLaws.{Cast, casts, failed, passed, tested}
+use Rattle.signed.specs.CodeLaws.{Cast, casts, tested}
 use Rattle.signed.specs.RangeLaws.{or_zero}
 use Rattle.rules.specs.Stores.{value_number, value_range}
 use Rattle.rules.specs.Calls.{Call, set_empirical}
@@ -27,10 +27,10 @@ number c = tested value_number c.before.before.ranges.ev c.in_range.ensures
 pub returns-then-not-in_range : goal.returns-then-not-in_range
 returns-then-not-in_range c =
     let w = c.before.before in
-    call_refused w.before.args.area.now (call w.before) w.if-area-ne-AREA.false (rw (failed (number c.before) c.if-not-in_range.true)) (λ q. omega (arith, q))
+    call_refused w.before.args.area.now (call w.before) w.if-area-ne-AREA.false (rw (sym (number c.before) ∙ c.if-not-in_range.true)) (λ q. omega (arith, q))
 
 number_in : (c : Else-not-in_range) → value_number c.before.before.before.args.ev ≡ true
-number_in c = passed (number c.before) c.if-not-in_range.false
+number_in c = sym (number c.before) ∙ c.if-not-in_range.false
 
 value : (c : After-in_range-2) → c.in_range-2.result ≡ value_range c.before.before.before.before.args.value
 value c = tested value_range c.before.before.before.before.ranges.value c.in_range-2.ensures
@@ -39,11 +39,11 @@ pub returns-then-not-in_range-2 : goal.returns-then-not-in_range-2
 returns-then-not-in_range-2 c =
     let n = c.before.before in
     let w = n.before.before in
-    call_refused w.before.args.area.now (call w.before) w.if-area-ne-AREA.false (rw (number_in n, failed (value c.before) c.if-not-in_range-2.true))
+    call_refused w.before.args.area.now (call w.before) w.if-area-ne-AREA.false (rw (number_in n, sym (value c.before) ∙ c.if-not-in_range-2.true))
     (λ q. omega (arith, q))
 
 value_in : (c : Else-not-in_range-2) → value_range c.before.before.before.before.before.args.value ≡ true
-value_in c = passed (value c.before) c.if-not-in_range-2.false
+value_in c = sym (value c.before) ∙ c.if-not-in_range-2.false
 
 kept : (c : Else-not-in_range-2) → Cast w32 c.before.before.before.before.before.args.value
 kept c = casts w32 (minus 32768) (pos 32767) c.before.before.before.before.before.ranges.value tt tt (value_in c)

@@ -1,10 +1,14 @@
 -- Good floats: the measurement with the positions that they give. Else refused, by 2 or 13, where the area is whole.
 use mathlib.Core.Path.{◌≡◌, sym, ap, ◌∙◌}
-use mathlib.Core.Bool.{true, false, cond}
+use mathlib.Core.Bool.{Bool, true, false, cond}
+use mathlib.Core.List.{List}
 use Prim.Native.Nat.{ℕ}
 use lib.Dec.{eqb}
+use lib.IntN.{ℤ}
+use mir.Syntax.{w64}
+use mir.Val.{to_z, of_z}
 use borrow.Author.Rules.{rules}
-use Rattle.signed.specs.CodeLaws.{read}
+use Rattle.package.specs.declared.arguments.Raws.{Raws}
 use Rattle.package.specs.declared.arguments.ToolMeasurement.{ToolMeasurement}
 use Rattle.package.specs.declared.arguments.ToolReadings.{ToolReadings}
 use Rattle.package.specs.declared.found.Kind.{Kind}
@@ -17,81 +21,72 @@ use Rattle.area.specs.Table.{held}
 use Rattle.measuring.specs.Reply.{tool, measured_on}
 use Rattle.measuring.specs.ReplyLaws.{Asked, after_room, by_arguments, small, wrong_area, refused, tool_positions_lem}
 use Rattle.float_measuring.proofs.evaluate_tool_readings.Goals as goal
-use Rattle.float_measuring.proofs.evaluate_tool_readings.Goals.{After-bad_float, After-kind_of-k, After-positions_of-p, After-tool_refusal, After-tool_with-a, Start}
 
-abbrev asked : Start → Asked
-asked s = record { measurement = tool s.args.t; area = s.args.area.now; results = s.args.results.now; place = s.args.place }
+abbrev asked : ToolReadings → (area results : List ℤ) → ℕ → Asked
+asked t area results place = record { measurement = tool t; area = area; results = results; place = place }
 
-module _ (c : After-tool_with-a) where
-  abbrev at-positions : After-positions_of-p
-  at-positions = c.before.before
+kind_of_number : (z : ℤ) {k : Kind} → k ≡ tool_kind (to_z w64 (of_z w64 z)) → to_z w64 (of_z w64 z) ≡ z → k ≡ tool_kind z
+kind_of_number z e f = e ∙ ap tool_kind f
 
-  abbrev at-kind : After-kind_of-k
-  at-kind = at-positions.before
+not_zero : {n : ℕ} (m : ℕ) → n ≡ cond (eqb m 2) 2 13 → n ≡ 0 → ⊥
+not_zero m e z = some_refusal m (sym e ∙ z)
 
-  abbrev start : Start
-  start = at-kind.before.before.before.before
-
-  abbrev given : ToolReadings
-  given = start.args.t
-
-  kind_is : at-kind.kind_of-k.result ≡ tool_kind given.probing-1.kind
-  kind_is = rw (read given.probing-1.kind (search at-kind.before.struct_told-1.given)) at at-kind.kind_of-k.ensures
-
-  good_is : at-positions.positions_of-p.result.good ≡ good_tool given
-  good_is = at-positions.positions_of-p.ensures.0 ∙ ap (λ (k : Kind). readings_ok k given.probing-1 given.readings-1) kind_is
+module _ (t : ToolReadings) where
+  good_is : {k : Kind} {g : Bool} → k ≡ tool_kind t.probing.kind → g ≡ readings_ok k t.probing t.readings → g ≡ good_tool t
+  good_is kind e = e ∙ ap (λ (k : Kind). readings_ok k t.probing t.readings) kind
 
   -- with the positions of good floats
-  at_is : at-positions.positions_of-p.result.good ≡ true → c.tool_with-a.result ≡ tool_at given
-  at_is e =
-      c.tool_with-a.ensures
-      ∙ ap (tool_with given) (at-positions.positions_of-p.ensures.1 e ∙ ap (λ (k : Kind). raws_of k given.probing-1 given.readings-1) kind_is)
+  at_is : {k : Kind} {r : Raws} {a : ToolMeasurement} → k ≡ tool_kind t.probing.kind → r ≡ raws_of k t.probing t.readings
+      → a ≡ tool_with t r → a ≡ tool_at t
+  at_is kind e f = f ∙ ap (tool_with t) (e ∙ ap (λ (k : Kind). raws_of k t.probing t.readings) kind)
+
+  -- the refusal
+  number_is : (area results : List ℤ) (place : ℕ) (r : Raws) {a : ToolMeasurement} {n m : ℕ} → good_tool t ≡ false → n ≡ cond (eqb m 2) 2 13
+      → m ≡ first (tool_arguments a) → a ≡ tool_with t r → n ≡ first (after_room (held area) (tool t))
+  number_is area results place r bad e f g =
+      by_arguments (asked t area results place)
+      (e ∙ ap (λ (n : ℕ). cond {A = ℕ} (eqb n 2) 2 13) (f ∙ ap (λ (a : ToolMeasurement). first (tool_arguments a)) g) ∙ tool_unread t r bad)
+      (not_zero _ e)
 
 pub returns-then-p : goal.returns-then-p
 returns-then-p c =
-    let e = c.before.before in
-    let t = e.before.before.before in
-    let w = t.before in
-    let s = start w in
-    e.evaluate_tool.ensures
-    ∙ ap (λ (a : ToolMeasurement). measured_on s.args.area.now (tool (whole_tool a)) s.args.results.now s.args.place) (at_is w t.if-p.true)
-    ∙ sym (tool_positions_lem s.args.area.now s.args.results.now s.args.place s.args.t (sym (good_is w) ∙ t.if-p.true))
+    let s = c.args in
+    let read : to_z w64 (of_z w64 s.t.probing.kind) ≡ s.t.probing.kind = search rules in
+    let kind = kind_of_number s.t.probing.kind c.kind_of-k.ensures read in
+    c.evaluate_tool.ensures
+    ∙ ap (λ (a : ToolMeasurement). measured_on s.area.now (tool (whole_tool a)) s.results.now s.place)
+    (at_is s.t kind (c.positions_of-p.ensures.1 c.if-p.true) c.tool_with-a.ensures)
+    ∙ sym (tool_positions_lem s.area.now s.results.now s.place s.t (sym (good_is s.t kind c.positions_of-p.ensures.0) ∙ c.if-p.true))
 
 pub returns-then-area-ne-AREA : goal.returns-then-area-ne-AREA
 returns-then-area-ne-AREA c =
-    let s = start c.before.before.before in
-    rw (c.not_answered.ensures.0, c.not_answered.ensures.1) (wrong_area (asked s) c.before.if-area-ne-AREA.true)
+    let s = c.args in
+    rw (c.not_answered.ensures.0, c.not_answered.ensures.1) (wrong_area (asked s.t s.area.now s.results.now s.place) c.if-area-ne-AREA.true)
 
 pub tool_refusal-requires : goal.tool_refusal-requires
 tool_refusal-requires c =
-    let w = c.before.before in kind_is w ∙ ap (λ (a : ToolMeasurement). tool_kind_of a) (sym w.tool_with-a.ensures)
-
--- ---- the refusal
-module _ (c : After-bad_float) where
-  abbrev at-refusal : After-tool_refusal
-  at-refusal = c.before
-
-  abbrev with-raws : After-tool_with-a
-  with-raws = at-refusal.before.before.before
-
-  not_zero : c.bad_float.result ≡ 0 → ⊥
-  not_zero z = some_refusal at-refusal.tool_refusal.result (sym c.bad_float.ensures ∙ z)
-
-  number_is : c.bad_float.result ≡ first (after_room (held (start with-raws).args.area.now) (tool (given with-raws)))
-  number_is =
-      let t = given with-raws in
-      let bad : good_tool t ≡ false = sym (good_is with-raws) ∙ at-refusal.before.before.if-p.left in
-      by_arguments (asked (start with-raws))
-      (c.bad_float.ensures
-      ∙ ap (λ (n : ℕ). cond {A = ℕ} (eqb n 2) 2 13)
-      (at-refusal.tool_refusal.ensures ∙ ap (λ (a : ToolMeasurement). first (tool_arguments a)) with-raws.tool_with-a.ensures)
-      ∙ tool_unread t (at-positions with-raws).positions_of-p.result.raws bad) not_zero
+    let s = c.args in
+    let read : to_z w64 (of_z w64 s.t.probing.kind) ≡ s.t.probing.kind = search rules in
+    let kind = kind_of_number s.t.probing.kind c.kind_of-k.ensures read in
+    kind ∙ ap (λ (a : ToolMeasurement). tool_kind_of a) (sym c.tool_with-a.ensures)
 
 pub refused-requires : goal.refused-requires
-refused-requires c = let b = c.before in small (asked (start (with-raws b))) (number_is b)
+refused-requires c =
+    let s = c.args in
+    let read : to_z w64 (of_z w64 s.t.probing.kind) ≡ s.t.probing.kind = search rules in
+    let kind = kind_of_number s.t.probing.kind c.kind_of-k.ensures read in
+    let bad : good_tool s.t ≡ false = sym (good_is s.t kind c.positions_of-p.ensures.0) ∙ c.if-p.false in
+    small (asked s.t s.area.now s.results.now s.place)
+    (number_is s.t s.area.now s.results.now s.place c.positions_of-p.result.raws bad c.bad_float.ensures c.tool_refusal.ensures c.tool_with-a.ensures)
 
 pub returns : goal.returns
 returns c =
-    let r = c.before.refused.ensures in
-    let b = c.before.before.before in
-    rw (r.0.0, r.0.1) (refused (asked (start (with-raws b))) b.before.before.if-area-ne-AREA.false (number_is b) (not_zero b) r.1)
+    let s = c.args in
+    let r = c.refused.ensures in
+    let read : to_z w64 (of_z w64 s.t.probing.kind) ≡ s.t.probing.kind = search rules in
+    let kind = kind_of_number s.t.probing.kind c.kind_of-k.ensures read in
+    let bad : good_tool s.t ≡ false = sym (good_is s.t kind c.positions_of-p.ensures.0) ∙ c.if-p.false in
+    rw (r.0.0, r.0.1)
+    (refused (asked s.t s.area.now s.results.now s.place) c.if-area-ne-AREA.false
+    (number_is s.t s.area.now s.results.now s.place c.positions_of-p.result.raws bad c.bad_float.ensures c.tool_refusal.ensures c.tool_with-a.ensures)
+    (not_zero c.tool_refusal.result c.bad_float.ensures) r.1)

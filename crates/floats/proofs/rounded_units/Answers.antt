@@ -1,7 +1,6 @@
 -- The code's quotient is twice the u, cut; halved with one more it is the u, halves up. Each number is of 64 bits by the size of the digits.
 use Prim.Native.Nat.{◌+◌, ◌-◌, ◌*◌, ◌/◌, ◌%◌}
 use native.Mathlib.Omega.{arith}
-use borrow.Author.Rules.{rules}
 use lib.Pow.{shr_le}
 use Rattle.floats.proofs.Laws.{halved}
 use Rattle.floats.proofs.rounded_units.Goals as goal

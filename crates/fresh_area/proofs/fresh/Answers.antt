@@ -5,7 +5,6 @@ use Prim.Native.Nat.{◌+◌}
 use native.Mathlib.Omega.{arith}
 use lib.IntN.{ℤ}
 use lib.ListN.{length, drop_of_length-le}
-use borrow.Author.Rules.{rules}
 use Rattle.lists.specs.Written.{written}
 use Rattle.area.specs.Called.{fresh_area}
 use Rattle.area.specs.CalledLaws.{fresh_wrong, fresh_done}

@@ -1,5 +1,5 @@
 -- By where the byte lies: a difference of at most 9 to 0, or of at most 5 to a, is that of a digit, and every other byte is none.
-use Rattle.std.proofs.Common.{arith, rules}
+use Rattle.std.proofs.Common.{arith}
 use Rattle.hexadecimal.proofs.Laws.{decimal_digit, letter_digit, no_digit}
 use Rattle.hexadecimal.proofs.digit_of.Goals as goal
 

@@ -1,5 +1,4 @@
 -- By the letter: the fields of a G line by their places, those of any other letter as numbers.
-use borrow.Author.Rules.{rules}
 use borrow.Author.Tests.{ne_eqb}
 use Rattle.job_text.specs.Letters.{letter_g}
 use Rattle.job_text.proofs.read_field.Goals as goal

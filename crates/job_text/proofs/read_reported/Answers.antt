@@ -1,7 +1,6 @@
 -- By the place: a raw is read in hexadecimal digits, any other field as a number.
 use mathlib.Core.Path.{◌≡◌}
 use mathlib.Core.Bool.{true, false}
-use borrow.Author.Rules.{rules}
 use Rattle.job_text.specs.Letters.{raw}
 use Rattle.job_text.proofs.read_reported.Goals as goal
 

@@ -1,12 +1,6 @@
 -- After each turn the lines that are left, run on the area as it is, come to what all come to, and the output so far is the text of those before.
-use mathlib.Core.Path.{◌≡◌, refl, sym, ap, subst, ◌∙◌}
-use mathlib.Core.List.{List, ◌∷◌, ◌++◌, append_assoc, append-nil}
-use Prim.Native.Nat.{ℕ, ◌+◌, ◌*◌, ◌^◌, ◌≤◌, ◌<◌, ◌-◌}
-use native.Mathlib.Omega.{arith}
-use lib.ListN.{length, take, drop, length-drop, take-append-drop}
-use lib.Signed.{nat_abs-le}
-use lib.Seq.{drop-drop, length-take-le}
-use borrow.Author.Rules.{rules}
+use Rattle.std.proofs.Common.{◌≡◌, ◌∙◌, ap, sym, subst, ℕ, ◌+◌, ◌-◌, ◌*◌, ◌^◌, ◌<◌, ◌≤◌, List, ◌∷◌, ◌++◌, ℤ, length, take, drop, arith, append_assoc, append-nil, length-drop, length-take-le, take-append-drop, drop-drop, rules}
+use lib.Signed.{mag, nat_abs-le}
 use Rattle.lists.specs.Copied.{part_end}
 use Rattle.lists.specs.Written.{written}
 use Rattle.lists.specs.WrittenLaws.{written_length, written_take, written_drop}
@@ -15,192 +9,155 @@ use Rattle.text.specs.PieceLaws.{lines_first, lines_end, has_line}
 use Rattle.area.specs.Table.{area_length}
 use Rattle.job_limits.specs.JobRuleLaws.{Runs, runs_when}
 use Rattle.job_text.specs.Lines.{Said, said_by}
+use Rattle.job_answers.specs.declared.Row.{Row}
 use Rattle.job_answers.specs.LineAnswers.{row_text}
 use Rattle.job_answers.specs.AnswerLaws.{Small, at_most_40}
 use Rattle.job_lines.specs.LineCalled.{Ran, ran_as, line_ran}
 use Rattle.jobs.specs.Jobs.{lines_area, lines_text}
 use Rattle.jobs.specs.JobLaws.{text_step, area_step, text_none, area_none, row_small, drop_more, from_start}
 use Rattle.jobs.proofs.run_lines.Goals as goal
-use Rattle.jobs.proofs.run_lines.Goals.{After-read_line-line, After-run_line-row, At-loop-at, In-loop-at, Start}
 
-abbrev start : At-loop-at → Start
-start l = l.before.before.before
+-- a line of a job that runs, whose bytes from a place on are read
+module _ (job : List ℕ) (n : ℕ) (runs : Runs job n) (at : ℕ) (h : at < length job) where
+  on : HasLine (drop at job)
+  on = has_line job at h runs.ended
 
-abbrev job : At-loop-at → List ℕ
-job l = (start l).args.job.now
+  module _ (size : ℕ) (e : size ≡ length (line (take (length job - at) (drop at job)))) where
+    size_is : size ≡ length (line (drop at job))
+    size_is = e ∙ ap (λ (x : List ℕ). length (line x)) (part_end job at)
 
-abbrev old : At-loop-at → List ℕ
-old l = (start l).args.output.now
+    within : at + size < length job
+    within = omega (arith, size_is, on, length-drop at job)
 
-abbrev rest : At-loop-at → List ℕ
-rest l = drop l.loop-at.at (job l)
+    more_lines : lines (drop at job) ≡ line (drop at job) ∷ lines (drop (at + (size + 1)) job)
+    more_lines =
+        lines_first (drop at job) on
+        ∙ ap (λ (k : ℕ). line (drop at job) ∷ lines (drop (k + 1) (drop at job))) (sym size_is)
+        ∙ ap (λ (x : List ℕ). line (drop at job) ∷ lines x) (drop-drop (size + 1) at job)
 
-live : (l : At-loop-at) → Runs (job l) (length (old l))
-live l = runs_when (job l) (length (old l)) (start l).requires.1
+    counted : (number : ℕ) → number + length (lines (drop at job)) ≡ length (lines job)
+        → (number + 1 + length (lines (drop (at + (size + 1)) job)) ≡ length (lines job)) × (number + 1 ≤ 1000)
+    counted number i = let m = ap length more_lines in (omega (arith, i, m), omega (arith, i, m, runs.count))
 
-on : (c : In-loop-at) → HasLine (rest c.before)
-on c = has_line (job c.before) c.before.loop-at.at (omega arith) (live c.before).ended
+-- what the line leaves and answers
+stepped : (job : List ℕ) (at : ℕ) (area : List ℤ) (number : ℕ) (o : Ran) (s : Said) → o ≡ line_ran area (number + 1) s
+    → s ≡ said_by (line (take (length job - at) (drop at job))) → o ≡ line_ran area (number + 1) (said_by (line (drop at job)))
+stepped job at area number o s e k =
+    e ∙ ap (line_ran area (number + 1)) (k ∙ ap (λ (x : List ℕ). said_by (line x)) (part_end job at))
 
--- ---- the line that is read
-abbrev inside : After-read_line-line → In-loop-at
-inside c = c.before.before.before
-
-abbrev turn : After-read_line-line → At-loop-at
-turn c = (inside c).before
-
-abbrev size : After-read_line-line → ℕ
-size c = c.read_line-line.result.length
-
-found : (c : After-read_line-line) → (size c ≡ length (line (rest (turn c)))) × ((turn c).loop-at.at + size c < length (job (turn c)))
-found c =
-    let l = turn c in
-    let e : size c ≡ length (line (rest l)) = c.read_line-line.ensures.1 ∙ ap (λ (x : List ℕ). length (line x)) (part_end (job l) l.loop-at.at) in
-    (e, omega (arith, e, on (inside c), length-drop l.loop-at.at (job l)))
-
-abbrev next : After-read_line-line → ℕ
-next c = (turn c).loop-at.at + (size c + 1)
-
-abbrev later : After-read_line-line → List (List ℕ)
-later c = lines (drop (next c) (job (turn c)))
-
-more_lines : (c : After-read_line-line) → lines (rest (turn c)) ≡ line (rest (turn c)) ∷ later c
-more_lines c =
-    let l = turn c in
-    lines_first (rest l) (on (inside c))
-    ∙ ap (λ (n : ℕ). line (rest l) ∷ lines (drop (n + 1) (rest l))) (sym (found c).0)
-    ∙ ap (λ (x : List ℕ). line (rest l) ∷ lines x) (drop-drop (size c + 1) l.loop-at.at (job l))
-
-counted : (c : After-read_line-line)
-    → ((turn c).loop-at.number + 1 + length (later c) ≡ length (lines (job (turn c)))) × ((turn c).loop-at.number + 1 ≤ 1000)
-counted c =
-    let l = turn c in
-    let e = ap length (more_lines c) in
-    (omega (arith, l.loop-at.invariant.1), omega (arith, l.loop-at.invariant.1, (live l).count))
-
--- ---- what it leaves and answers
-abbrev reading : After-run_line-row → After-read_line-line
-reading c = c.before.before.before.before
-
-abbrev line_at : After-run_line-row → At-loop-at
-line_at c = turn (reading c)
-
-abbrev left : After-run_line-row → Ran
-left c = ran_as c.run_line-row.result c.run_line-row.new.area
-
-stepped : (c : After-run_line-row) → left c ≡ line_ran (line_at c).loop-at.area ((line_at c).loop-at.number + 1) (said_by (line (rest (line_at c))))
-stepped c =
-    let r = reading c in
-    let l = turn r in
-    c.run_line-row.ensures
-    ∙ ap (λ (s : Said). line_ran l.loop-at.area (l.loop-at.number + 1) s)
-    (r.read_line-line.ensures.0 ∙ ap (λ (x : List ℕ). said_by (line x)) (part_end (job l) l.loop-at.at))
-
-short : (c : After-run_line-row) → length (row_text c.run_line-row.result) ≤ 40
-short c =
-    let l = line_at c in
-    at_most_40 c.run_line-row.result
-    (subst (λ (o : Ran). Small o.row) (sym (stepped c))
-    (row_small l.loop-at.area (l.loop-at.number + 1) (said_by (line (rest l))) l.loop-at.invariant.3 (counted (reading c)).1))
-    (omega (arith, nat_abs-le c.run_line-row.result.evaluation.deviation {H = 2 ^ 31} (search c.run_line-row.type_inv)))
-    (omega (arith, nat_abs-le c.run_line-row.result.evaluation.correction {H = 2 ^ 31} (search c.run_line-row.type_inv)))
-
-room : (c : After-run_line-row) → (line_at c).loop-at.filled + length (row_text c.run_line-row.result) ≤ length (line_at c).loop-at.output
-room c =
-    let l = line_at c in
-    omega (arith, short c, (counted (reading c)).0, (live l).room, l.loop-at.invariant.2, l.loop-at.invariant.4)
-
-pub loop-at-init : goal.loop-at-init
-loop-at-init c = (omega arith, omega arith, omega arith, c.before.before.requires.0, refl, refl, refl, refl, refl)
-
-pub slice_bounds-read_line-count : goal.slice_bounds-read_line-count
-slice_bounds-read_line-count c = omega arith
+short : (area : List ℤ) (number : ℕ) (o : Ran) (s : Said) → length area ≡ area_length → number + 1 ≤ 1000 → o ≡ line_ran area (number + 1) s
+    → mag o.row.evaluation.deviation < 2 ^ 31 → mag o.row.evaluation.correction < 2 ^ 31 → length (row_text o.row) ≤ 40
+short area number o s whole h e d c =
+    at_most_40 o.row (subst (λ (x : Ran). Small x.row) (sym e) (row_small area (number + 1) s whole h))
+    (omega (arith, nat_abs-le o.row.evaluation.deviation {H = 2 ^ 31} d))
+    (omega (arith, nat_abs-le o.row.evaluation.correction {H = 2 ^ 31} c))
 
 pub read_line-line-requires : goal.read_line-line-requires
 read_line-line-requires c =
-    let i = c.before.before in
-    let l = i.before in
-    (subst HasLine (sym (part_end (job l) l.loop-at.at)) (on i), omega (arith, l.loop-at.invariant.5, (start l).requires.2))
+    let job = c.args.job.now in
+    let r = runs_when job (length c.args.output.now) c.requires.1 in
+    (subst HasLine (sym (part_end job c.loop-at.at)) (on job _ r c.loop-at.at (omega arith)), omega (arith, c.loop-at.invariant.5, c.requires.2))
 
 pub overflow_add-number : goal.overflow_add-number
-overflow_add-number c = omega (arith, counted c.before)
+overflow_add-number c =
+    let job = c.args.job.now in
+    let r = runs_when job (length c.args.output.now) c.requires.1 in
+    omega (arith, counted job _ r c.loop-at.at (omega arith) _ c.read_line-line.ensures.1 c.loop-at.number c.loop-at.invariant.1)
 
 pub run_line-row-requires : goal.run_line-row-requires
-run_line-row-requires c =
-    let r = c.before.before.before in
-    omega (arith, r.read_line-line.auto.values, (turn r).loop-at.invariant.5, (start (turn r)).requires.2)
+run_line-row-requires c = omega (arith, c.read_line-line.auto.values, c.loop-at.invariant.5, c.requires.2)
 
 pub put_row-filled-requires : goal.put_row-filled-requires
-put_row-filled-requires c = room c.before.before
+put_row-filled-requires c =
+    let job = c.args.job.now in
+    let i = c.loop-at.invariant in
+    let r = runs_when job (length c.args.output.now) c.requires.1 in
+    let k = counted job _ r c.loop-at.at (omega arith) _ c.read_line-line.ensures.1 c.loop-at.number i.1 in
+    let e = stepped job c.loop-at.at c.loop-at.area c.loop-at.number (ran_as c.run_line-row.result c.run_line-row.new.area) _ c.run_line-row.ensures
+    c.read_line-line.ensures.0 in
+    let s = short c.loop-at.area c.loop-at.number _ _ i.3 k.1 e (search rules) (search rules) in
+    omega (arith, s, k.0, r.room, i.2, i.4)
 
 pub overflow_add-at : goal.overflow_add-at
 overflow_add-at c =
-    let r = reading c.before.before.before.before.before.before in
-    omega (arith, found r, (live (turn r)).size)
+    let job = c.args.job.now in
+    let r = runs_when job (length c.args.output.now) c.requires.1 in
+    omega (arith, within job _ r c.loop-at.at (omega arith) _ c.read_line-line.ensures.1, r.size)
 
 pub overflow_add-at-in-loop-at : goal.overflow_add-at-in-loop-at
 overflow_add-at-in-loop-at c =
-    let r = reading c.before.before.before.before.before.before in
-    omega (arith, found r, (live (turn r)).size)
-
-pub loop-at-smaller : goal.loop-at-smaller
-loop-at-smaller c = omega (arith, found (reading c.before.before.before.before.before.before))
+    let job = c.args.job.now in
+    let r = runs_when job (length c.args.output.now) c.requires.1 in
+    omega (arith, within job _ r c.loop-at.at (omega arith) _ c.read_line-line.ensures.1, r.size)
 
 pub loop-at-preserved : goal.loop-at-preserved
 loop-at-preserved c =
-    let w = c.before.before.before in
-    let st = w.before.before.before in
-    let f = reading st in
-    let l = turn f in
-    let o = left st in
+    let job = c.args.job.now in
+    let old = c.args.output.now in
+    let at = c.loop-at.at in
+    let area = c.loop-at.area in
+    let number = c.loop-at.number in
+    let out = c.loop-at.output in
+    let n = c.loop-at.filled in
+    let i = c.loop-at.invariant in
+    let r = runs_when job (length old) c.requires.1 in
+    let f = c.read_line-line.ensures.1 in
+    let m = more_lines job _ r at (omega arith) _ f in
+    let k = counted job _ r at (omega arith) _ f number i.1 in
+    let w = within job _ r at (omega arith) _ f in
+    let later = lines (drop (at + (c.read_line-line.result.length + 1)) job) in
+    let o : Ran = ran_as c.run_line-row.result c.run_line-row.new.area in
+    let e = stepped job at area number o _ c.run_line-row.ensures c.read_line-line.ensures.0 in
+    let s = short area number o _ i.3 k.1 e (search rules) (search rules) in
     let t = row_text o.row in
-    let out = l.loop-at.output in
-    let n = l.loop-at.filled in
-    let r : w.put_row-filled.result ≡ n + length t = w.put_row-filled.ensures.0 in
-    let b : w.put_row-filled.new.out ≡ written out n t = w.put_row-filled.ensures.1 in
-    let h = room st in (
-      omega (arith, (found f).1),
-      (counted f).0,
-      omega (arith, r, short st, l.loop-at.invariant.2),
-      st.run_line-row.auto.area ∙ l.loop-at.invariant.3,
-      ap length b ∙ written_length out n t h ∙ l.loop-at.invariant.4,
-      f.read_line-line.auto.values ∙ l.loop-at.invariant.5,
-      rw (r, b) (written_drop out n t h ∙ drop_more out (old l) n (length t) l.loop-at.invariant.6),
-      rw (r, b, written_take out n t h)
-          (l.loop-at.invariant.7
-          ∙ ap (λ (x : List (List ℕ)). take n out ++ lines_text l.loop-at.area l.loop-at.number x) (more_lines f)
-          ∙ ap (λ (x : List ℕ). take n out ++ x) (text_step l.loop-at.area l.loop-at.number (line (rest l)) (later f) o (stepped st))
-          ∙ sym (append_assoc (take n out) t (lines_text o.area-1 (l.loop-at.number + 1) (later f)))),
-      l.loop-at.invariant.8
-          ∙ ap (lines_area l.loop-at.area) (more_lines f)
-          ∙ area_step l.loop-at.area l.loop-at.number (line (rest l)) (later f) o (stepped st),
+    let p : c.put_row-filled.result ≡ n + length t = c.put_row-filled.ensures.0 in
+    let b : c.put_row-filled.new.out ≡ written out n t = c.put_row-filled.ensures.1 in
+    let h : n + length t ≤ length out = omega (arith, s, k.0, r.room, i.2, i.4) in (
+      omega (arith, w),
+      k.0,
+      omega (arith, p, s, i.2),
+      c.run_line-row.auto.area ∙ i.3,
+      ap length b ∙ written_length out n t h ∙ i.4,
+      c.read_line-line.auto.values ∙ i.5,
+      rw (p, b) (written_drop out n t h ∙ drop_more out old n (length t) i.6),
+      rw (p, b, written_take out n t h)
+          (i.7
+          ∙ ap (λ (x : List (List ℕ)). take n out ++ lines_text area number x) m
+          ∙ ap (λ (x : List ℕ). take n out ++ x) (text_step area number (line (drop at job)) later o e)
+          ∙ sym (append_assoc (take n out) t (lines_text o.area (number + 1) later))),
+      i.8 ∙ ap (lines_area area) m ∙ area_step area number (line (drop at job)) later o e,
     )
 
-pub shape_of-area : goal.shape_of-area
-shape_of-area c = c.before.loop-at.invariant.3 ∙ sym (start c.before).requires.0
+-- at the end no line is left
+module _ (job : List ℕ) (at : ℕ) (h : length job ≤ at) (a area : List ℤ) (number : ℕ) where
+  text_after : (t : List ℕ) → lines_text a 0 (lines job) ≡ t ++ lines_text area number (lines (drop at job)) → lines_text a 0 (lines job) ≡ t
+  text_after t e =
+      e ∙ ap (λ (x : List (List ℕ)). t ++ lines_text area number x) (lines_end job at h)
+      ∙ ap (λ (x : List ℕ). t ++ x) (text_none area number) ∙ append-nil t
 
-pub shape_of-output : goal.shape_of-output
-shape_of-output c = c.before.loop-at.invariant.4
+  area_after : lines_area a (lines job) ≡ lines_area area (lines (drop at job)) → lines_area a (lines job) ≡ area
+  area_after e = e ∙ ap (lines_area area) (lines_end job at h) ∙ area_none area
 
-pub shape_of-values : goal.shape_of-values
-shape_of-values c = c.before.loop-at.invariant.5
+pub returns-clause-value : goal.returns-clause-value
+returns-clause-value c =
+    let job = c.args.job.now in
+    let i = c.loop-at.invariant in
+    let r = runs_when job (length c.args.output.now) c.requires.1 in
+    let t = text_after job c.loop-at.at (omega arith) c.args.area.now c.loop-at.area c.loop-at.number _ i.7 in
+    sym (ap length t ∙ length-take-le c.loop-at.filled c.loop-at.output (omega (arith, i.1, i.2, i.4, r.room)))
 
-pub returns : goal.returns
-returns c =
-    let l = c.before in
-    let n = l.loop-at.filled in
-    let out = l.loop-at.output in
-    let none = lines_end (job l) l.loop-at.at (omega arith) in
-    let a = (start l).args.area.now in
-    let txt : lines_text a 0 (lines (job l)) ≡ take n out =
-    l.loop-at.invariant.7
-    ∙ ap (λ (x : List (List ℕ)). take n out ++ lines_text l.loop-at.area l.loop-at.number x) none
-    ∙ ap (λ (x : List ℕ). take n out ++ x) (text_none l.loop-at.area l.loop-at.number)
-    ∙ append-nil (take n out) in
-    let aft : lines_area a (lines (job l)) ≡ l.loop-at.area = l.loop-at.invariant.8 ∙ ap (lines_area l.loop-at.area) none ∙ area_none l.loop-at.area in
-    let len : length (take n out) ≡ n = length-take-le n out (omega (arith, l.loop-at.invariant.1, l.loop-at.invariant.2, l.loop-at.invariant.4, (live l).room)) in (
-      sym (ap length txt ∙ len),
-      (
-        sym aft,
-        rw txt (from_start (old l) out (take n out) (rw (len, ← l.loop-at.invariant.6) (sym (take-append-drop n out)))),
-      ),
-    )
+pub returns-clause-area_after : goal.returns-clause-area_after
+returns-clause-area_after c =
+    sym (area_after c.args.job.now c.loop-at.at (omega arith) c.args.area.now c.loop-at.area c.loop-at.number c.loop-at.invariant.8)
+
+pub returns-clause-output_after : goal.returns-clause-output_after
+returns-clause-output_after c =
+    let job = c.args.job.now in
+    let old = c.args.output.now in
+    let out = c.loop-at.output in
+    let n = c.loop-at.filled in
+    let i = c.loop-at.invariant in
+    let r = runs_when job (length old) c.requires.1 in
+    let t = text_after job c.loop-at.at (omega arith) c.args.area.now c.loop-at.area c.loop-at.number _ i.7 in
+    let l = length-take-le n out (omega (arith, i.1, i.2, i.4, r.room)) in
+    rw t (from_start old out (take n out) (rw (l, ← i.6) (sym (take-append-drop n out))))

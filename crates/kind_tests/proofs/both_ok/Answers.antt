@@ -2,7 +2,6 @@
 use mathlib.Core.Path.{sym, ap, ap₂, ◌∙◌}
 use mathlib.Core.Bool.{◌&&◌, and-true}
 use mir.Facts.{to_z-of_z}
-use borrow.Author.Rules.{rules}
 use Rattle.rules.specs.Stores.{position_range}
 use Rattle.kind_tests.proofs.both_ok.Goals as goal
 

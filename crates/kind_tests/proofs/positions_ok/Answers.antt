@@ -18,7 +18,6 @@ use Rattle.rules.specs.Stores.{position_range, width_range}
 use Rattle.rules.specs.Kinds.{kind}
 use Rattle.rules.specs.Sizes.{pairs, positions_ok}
 use Rattle.kind_tests.proofs.positions_ok.Goals as goal
-use Rattle.kind_tests.proofs.positions_ok.Goals.{Start}
 
 -- the test by the form
 abbrev in_range : List ℤ → Bool
@@ -47,50 +46,30 @@ back z = to_z w64 (of_z w64 z)
 two_read : (v w : ℤ) → mag v < 2 ^ 63 → mag w < 2 ^ 63 → in_range (back v ∷ back w ∷ []) ≡ in_range (v ∷ w ∷ [])
 two_read v w f g = ap₂ (λ v w. in_range (v ∷ w ∷ [])) (read v f) (read w g)
 
-setpoint_read : (s : Start) → back s.args.a.setpoint ≡ s.args.a.setpoint
-setpoint_read s = read s.args.a.setpoint (search rules)
-
-first_read : (s : Start) → back s.args.q.r1 ≡ s.args.q.r1
-first_read s = read s.args.q.r1 (search rules)
-
-low_read : (s : Start) → in_range (back s.args.q.r1 ∷ back s.args.q.r2 ∷ []) ≡ in_range (s.args.q.r1 ∷ s.args.q.r2 ∷ [])
-low_read s = two_read s.args.q.r1 s.args.q.r2 (search rules) (search rules)
-
-high_read : (s : Start) → in_range (back s.args.q.r3 ∷ back s.args.q.r4 ∷ []) ≡ in_range (s.args.q.r3 ∷ s.args.q.r4 ∷ [])
-high_read s = two_read s.args.q.r3 s.args.q.r4 (search rules) (search rules)
-
-centres_read : (s : Start) → in_range (back s.args.a.c1 ∷ back s.args.a.c2 ∷ []) ≡ in_range (s.args.a.c1 ∷ s.args.a.c2 ∷ [])
-centres_read s = two_read s.args.a.c1 s.args.a.c2 (search rules) (search rules)
-
 pub returns-in-Plane : goal.returns-in-Plane
 returns-in-Plane c =
-    let p = c.before.before in
-    let e = p.before.before in
-    let s = e.before.before in
-    ap₂ ◌&&◌ (p.position_ok.ensures ∙ ap position_range (first_read s)) (c.position_ok-in-Plane.ensures ∙ ap position_range (setpoint_read s))
-    ∙ sym (of_plane s.args.k s.args.a s.args.q e.enum_told-1.given.1)
+    ap₂ ◌&&◌
+    (c.position_ok.ensures ∙ ap position_range (read c.args.q.r1 (search rules)))
+    (c.position_ok-in-Plane.ensures ∙ ap position_range (read c.args.a.setpoint (search rules)))
+    ∙ sym (of_plane c.args.k c.args.a c.args.q c.in-Plane.is)
 
 pub returns-in-Single : goal.returns-in-Single
 returns-in-Single c =
-    let p = c.before.before in
-    let m = p.before in
-    let b = m.before in
-    let e = b.before.before.before in
-    let s = e.before.before in
-    let set = m.single_centre in
+    let set = c.single_centre in
     ap₂ ◌&&◌
-    (ap₂ ◌&&◌ (b.both_ok.ensures ∙ low_read s) (p.position_ok-in-Single.ensures ∙ ap position_range (read set.result set.type_inv)))
-    (c.width_ok.ensures ∙ ap width_range (setpoint_read s))
-    ∙ sym (of_single s.args.k s.args.a s.args.q set.result e.enum_told-in-Single-1.given.1 (set.ensures s.args.k.inside))
+    (ap₂ ◌&&◌
+    (c.both_ok.ensures ∙ two_read c.args.q.r1 c.args.q.r2 (search rules) (search rules))
+    (c.position_ok-in-Single.ensures ∙ ap position_range (read set.result set.type_inv)))
+    (c.width_ok.ensures ∙ ap width_range (read c.args.a.setpoint (search rules)))
+    ∙ sym (of_single c.args.k c.args.a c.args.q set.result c.in-Single.is (set.ensures c.args.k.inside))
 
 pub returns-in-Double : goal.returns-in-Double
 returns-in-Double c =
-    let centres = c.before.before in
-    let high = centres.before.before.before in
-    let low = high.before.before.before in
-    let e = low.before.before.before in
-    let s = e.before.before in
     ap₂ ◌&&◌
-    (ap₂ ◌&&◌ (ap₂ ◌&&◌ (low.both_ok-in-Double.ensures ∙ low_read s) (high.both_ok-in-Double-2.ensures ∙ high_read s)) (centres.both_ok-in-Double-3.ensures ∙ centres_read s))
-    (c.width_ok-in-Double.ensures ∙ ap width_range (setpoint_read s))
-    ∙ sym (of_double s.args.k s.args.a s.args.q e.enum_told-in-Double-1.given.1)
+    (ap₂ ◌&&◌
+    (ap₂ ◌&&◌
+    (c.both_ok-in-Double.ensures ∙ two_read c.args.q.r1 c.args.q.r2 (search rules) (search rules))
+    (c.both_ok-in-Double-2.ensures ∙ two_read c.args.q.r3 c.args.q.r4 (search rules) (search rules)))
+    (c.both_ok-in-Double-3.ensures ∙ two_read c.args.a.c1 c.args.a.c2 (search rules) (search rules)))
+    (c.width_ok-in-Double.ensures ∙ ap width_range (read c.args.a.setpoint (search rules)))
+    ∙ sym (of_double c.args.k c.args.a c.args.q c.in-Double.is)

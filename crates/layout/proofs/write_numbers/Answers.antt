@@ -1,11 +1,10 @@
 -- After each turn the area is the one at the start with the first j numbers written from `at` on; at the end j is all of them.
 use mathlib.Core.Path.{◌≡◌, ap, ◌∙◌}
-use Prim.Native.Nat.{◌-◌, ◌≤◌}
 use native.Mathlib.Numerals.{add-one}
 use native.Mathlib.Omega.{arith}
 use lib.IntN.{pos}
 use lib.ListN.{length, get_or}
-use lib.Seq.{paste, paste-zero, paste-suc, length-paste, take_all}
+use lib.Seq.{paste-zero, paste-suc, length-paste, take_all}
 use mir.Syntax.{w32}
 use Rattle.signed.specs.CodeLaws.{read_as}
 use Rattle.lists.specs.Written.{written}

@@ -1,13 +1,7 @@
-use mathlib.Core.Path.{◌≡◌, ap, ◌∙◌}
+use mathlib.Core.Path.{◌≡◌}
 use Prim.Native.Nat.{◌-◌, ◌≤◌}
-use native.Mathlib.Numerals.{add-one}
-use native.Mathlib.Omega.{arith}
-use lib.IntN.{pos}
-use lib.ListN.{length, get_or}
-use lib.Seq.{paste, paste-zero, paste-suc, length-paste, take_all}
-use mir.Syntax.{w32}
-use Rattle.signed.specs.CodeLaws.{read_as}
-use Rattle.lists.specs.Written.{written}
+use lib.ListN.{length}
+use lib.Seq.{paste}
 use Rattle.layout.proofs.write_numbers.Given as goal
 
 abbrev pub invariant-loop-j : goal.invariant-loop-j

@@ -1,10 +1,13 @@
 -- What is lent turns it away, or it is handed on: both by the laws of either way of measuring.
 use mathlib.Core.Path.{◌≡◌, sym, ap, ◌∙◌}
-use mathlib.Core.Bool.{Bool, ◌&&◌, and-eq-true_iff}
+use mathlib.Core.Bool.{Bool, ◌&&◌, true, and-eq-true_iff}
+use mathlib.Core.List.{List}
+use Prim.Native.Nat.{ℕ}
 use lib.Dec.{eqb}
+use lib.IntN.{ℤ}
+use lib.Ieee.{Float}
 use lib.ListN.{length}
 use native.Mathlib.Omega.{arith}
-use borrow.Author.Rules.{rules}
 use borrow.Author.Tests.{eqb-true}
 use Rattle.package.specs.declared.arguments.Readings.{Readings}
 use Rattle.package.specs.declared.arguments.ToolMeasurement.{ToolMeasurement}
@@ -15,64 +18,58 @@ use Rattle.lent_reports.specs.LentReports.{report_floats, lent_readings, tool_re
 use Rattle.measuring.specs.Reply.{lent_rules, tool, measured_on}
 use Rattle.measuring.specs.ReplyLaws.{Asked, turned_away, as_many, handed_on}
 use Rattle.lent_readings.proofs.measure_tool_readings.Goals as goal
-use Rattle.lent_readings.proofs.measure_tool_readings.Goals.{Else-refusal-ne-DONE, Start}
 
-module _ (s : Start) where
+module _ (area numbers : List ℤ) (floats : List Float) (marks : ℕ) (results : List ℤ) (place : ℕ) where
   abbrev numbers_fit : Bool
-  numbers_fit = eqb (length s.args.numbers.now) 21
+  numbers_fit = eqb (length numbers) 21
 
   abbrev floats_fit : Bool
-  floats_fit = eqb (length s.args.floats.now) report_floats
+  floats_fit = eqb (length floats) report_floats
 
   abbrev many : Bool
   many = numbers_fit && floats_fit
 
   abbrev reported : ToolMeasurement → ToolReadings
-  reported a = tool_reported a (lent_readings a.raws-1 s.args.floats.now s.args.reported)
+  reported a = tool_reported a (lent_readings a.raws floats marks)
 
   abbrev asked : Asked
-  asked =
-      record { measurement = tool (reported (tool_of s.args.numbers.now)); area = s.args.area.now; results = s.args.results.now; place = s.args.place }
+  asked = record { measurement = tool (reported (tool_of numbers)); area = area; results = results; place = place }
+
+  -- nothing of what is lent refuses it
+  long : first (lent_rules (length area) many (length results) place) ≡ 0 → (length numbers ≡ 21) × (length floats ≡ report_floats)
+  long none =
+      let b = (and-eq-true_iff numbers_fit floats_fit).0 (as_many asked many none) in
+      (eqb-true (length numbers) 21 b.0, eqb-true (length floats) report_floats b.1)
 
 pub returns-then-refusal-ne-DONE : goal.returns-then-refusal-ne-DONE
 returns-then-refusal-ne-DONE c =
-    let n = c.before in
-    let l = n.before.before in
-    let s = l.before.before in
-    rw (c.decided_by.ensures, n.not_answered.ensures.0, n.not_answered.ensures.1)
-    (turned_away (asked s) (many s) l.lent_refusal-refusal.ensures n.before.if-refusal-ne-DONE.true)
-
--- nothing of what is lent refuses it
-module _ (c : Else-refusal-ne-DONE) where
-  abbrev start : Start
-  start = c.before.before.before
-
-  none : first (lent_rules (length start.args.area.now) (many start) (length start.args.results.now) start.args.place) ≡ 0
-  none = sym c.before.lent_refusal-refusal.ensures ∙ c.if-refusal-ne-DONE.false
-
-  long : (length start.args.numbers.now ≡ 21) × (length start.args.floats.now ≡ report_floats)
-  long =
-      let b = (and-eq-true_iff (numbers_fit start) (floats_fit start)).0 (as_many (asked start) (many start) none) in
-      (eqb-true (length start.args.numbers.now) 21 b.0, eqb-true (length start.args.floats.now) report_floats b.1)
+    let s = c.args in
+    rw (c.decided_by.ensures, c.not_answered.ensures.0, c.not_answered.ensures.1)
+    (turned_away (asked s.area.now s.numbers.now s.floats.now s.reported s.results.now s.place)
+    (many s.area.now s.numbers.now s.floats.now s.reported s.results.now s.place) c.lent_refusal-refusal.ensures c.if-refusal-ne-DONE.true)
 
 pub tool_of-a-requires : goal.tool_of-a-requires
-tool_of-a-requires c = omega (arith, (long c).0)
+tool_of-a-requires c =
+    let s = c.args in
+    omega (
+      arith,
+      (long s.area.now s.numbers.now s.floats.now s.reported s.results.now s.place (sym c.lent_refusal-refusal.ensures ∙ c.if-refusal-ne-DONE.false)).0,
+    )
 
 pub lent_readings-readings-requires : goal.lent_readings-readings-requires
-lent_readings-readings-requires c = (long c.before.before).1
+lent_readings-readings-requires c =
+    let s = c.args in
+    (long s.area.now s.numbers.now s.floats.now s.reported s.results.now s.place (sym c.lent_refusal-refusal.ensures ∙ c.if-refusal-ne-DONE.false)).1
 
 pub returns : goal.returns
 returns c =
-    let m = c.before.before.before in
-    let g = m.before.before in
-    let l = g.before.before in
-    let o = l.before.before in
-    let e = o.before in
-    let s = start e in
-    let given : g.tool_reported.result ≡ reported s (tool_of s.args.numbers.now) =
-    g.tool_reported.ensures
-    ∙ ap (λ (q : Readings). tool_reported o.tool_of-a.result q) l.lent_readings-readings.ensures
-    ∙ ap (reported s) o.tool_of-a.ensures in
-    let measured = m.evaluate_tool_readings.ensures
-    ∙ ap (λ (t : ToolReadings). measured_on s.args.area.now (tool t) s.args.results.now s.args.place) given in
-    rw c.decided_by-2.ensures (handed_on (asked s) (many s) (none e) measured)
+    let s = c.args in
+    let given : c.tool_reported.result ≡ reported s.area.now s.numbers.now s.floats.now s.reported s.results.now s.place (tool_of s.numbers.now) =
+    c.tool_reported.ensures
+    ∙ ap (λ (q : Readings). tool_reported c.tool_of-a.result q) c.lent_readings-readings.ensures
+    ∙ ap (reported s.area.now s.numbers.now s.floats.now s.reported s.results.now s.place) c.tool_of-a.ensures in
+    let measured = c.evaluate_tool_readings.ensures
+    ∙ ap (λ (t : ToolReadings). measured_on s.area.now (tool t) s.results.now s.place) given in
+    rw c.decided_by-2.ensures
+    (handed_on (asked s.area.now s.numbers.now s.floats.now s.reported s.results.now s.place)
+    (many s.area.now s.numbers.now s.floats.now s.reported s.results.now s.place) (sym c.lent_refusal-refusal.ensures ∙ c.if-refusal-ne-DONE.false) measured)

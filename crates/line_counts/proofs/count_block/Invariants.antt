@@ -1,11 +1,7 @@
-use mathlib.Core.Path.{◌≡◌, ap}
-use mathlib.Core.Logic.{⊎_elim}
+use mathlib.Core.Path.{◌≡◌}
 use Prim.Native.Nat.{◌+◌, ◌≤◌, ◌-◌}
-use native.Mathlib.Omega.{arith}
-use borrow.Author.Rules.{rules}
 use lib.ListN.{length, drop}
 use Rattle.text.specs.Pieces.{lines}
-use Rattle.text.specs.PieceLaws.{lines_end, count_feed, count_other}
 use Rattle.line_counts.proofs.count_block.Given as goal
 
 abbrev pub invariant-loop-i : goal.invariant-loop-i

@@ -1,11 +1,7 @@
-use mathlib.Core.Path.{◌≡◌, sym}
+use mathlib.Core.Path.{◌≡◌}
 use Prim.Native.Nat.{◌+◌, ◌≤◌, ◌-◌}
-use native.Mathlib.Omega.{arith}
-use borrow.Author.Rules.{rules}
-use lib.ListN.{length, drop, length-take}
-use Rattle.lists.specs.Copied.{part_end}
+use lib.ListN.{length, drop}
 use Rattle.text.specs.Pieces.{lines}
-use Rattle.text.specs.PieceLaws.{count_part, count_le}
 use Rattle.line_counts.proofs.count_lines.Given as goal
 
 abbrev pub invariant-loop-at : goal.invariant-loop-at

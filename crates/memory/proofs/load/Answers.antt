@@ -1,7 +1,6 @@
 -- By cases: a wrong area, a length other than 80, or both halves of the block written, each to its section.
 use native.Mathlib.Omega.{arith}
 use lib.ListN.{length, length-take}
-use borrow.Author.Rules.{rules}
 use borrow.Author.Tests.{ne_eqb}
 use Rattle.lists.specs.Copied.{part_end}
 use Rattle.rules.specs.Calls.{load}

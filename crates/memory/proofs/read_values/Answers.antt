@@ -1,7 +1,7 @@
 -- After i turns the first i entries are the values of the section's first i records; each record is one number, and 20 turns give them all.
 use mathlib.Core.Path.{◌≡◌, refl, sym, ap, ◌∙◌}
 use mathlib.Core.List.{List, [], map, append-nil}
-use Prim.Native.Nat.{ℕ, ◌+◌, ◌-◌, ◌≤◌, ◌<◌}
+use Prim.Native.Nat.{ℕ, ◌+◌, ◌≤◌, ◌<◌}
 use native.Mathlib.Omega.{arith}
 use lib.IntN.{ℤ, pos}
 use lib.ListN.{length, get_or, length-map}
@@ -9,7 +9,7 @@ use mir.Syntax.{w16, w32}
 use mir.Val.{to_z, of_z}
 use borrow.Author.Rules.{rules}
 use Rattle.signed.specs.CodeLaws.{read_as}
-use Rattle.lists.specs.Copied.{copied, copied_suc, copied_all}
+use Rattle.lists.specs.Copied.{copied_suc, copied_all}
 use Rattle.rules.specs.Stores.{means}
 use Rattle.layout.specs.declared.Section.{Section}
 use Rattle.layout.specs.Layout.{place, records}

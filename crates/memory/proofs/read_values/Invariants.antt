@@ -1,19 +1,10 @@
-use mathlib.Core.Path.{◌≡◌, refl, sym, ap, ◌∙◌}
-use mathlib.Core.List.{List, [], map, append-nil}
-use Prim.Native.Nat.{ℕ, ◌+◌, ◌-◌, ◌≤◌, ◌<◌}
-use native.Mathlib.Omega.{arith}
-use lib.IntN.{ℤ, pos}
-use lib.ListN.{length, get_or, length-map}
-use mir.Syntax.{w16, w32}
-use mir.Val.{to_z, of_z}
-use borrow.Author.Rules.{rules}
-use Rattle.signed.specs.CodeLaws.{read_as}
-use Rattle.lists.specs.Copied.{copied, copied_suc, copied_all}
+use mathlib.Core.Path.{◌≡◌}
+use mathlib.Core.List.{map}
+use Prim.Native.Nat.{◌-◌, ◌≤◌}
+use Rattle.lists.specs.Copied.{copied}
 use Rattle.rules.specs.Stores.{means}
-use Rattle.layout.specs.declared.Section.{Section}
-use Rattle.layout.specs.Layout.{place, records}
-use Rattle.layout.specs.LayoutLaws.{records_length, record_read, number_read}
-use Rattle.area.specs.Table.{value_from, record_from}
+use Rattle.layout.specs.Layout.{records}
+use Rattle.area.specs.Table.{record_from}
 use Rattle.memory.proofs.read_values.Given as goal
 
 abbrev pub invariant-loop-i : goal.invariant-loop-i

@@ -1,5 +1,4 @@
 -- A wrong area comes first; else both sections are read as their values, and the answer and the buffer are those of `save_memory` on them.
-use borrow.Author.Rules.{rules}
 use Rattle.memory.specs.BlockCallLaws.{save_wrong, save_done}
 use Rattle.memory.proofs.save.Goals as goal
 

@@ -1,16 +1,7 @@
-use mathlib.Core.Path.{◌≡◌, ap, ◌∙◌}
-use mathlib.Core.List.{List}
+use mathlib.Core.Path.{◌≡◌}
 use Prim.Native.Nat.{◌-◌, ◌≤◌}
-use native.Mathlib.Numerals.{add-one}
-use native.Mathlib.Omega.{arith}
-use lib.IntN.{ℤ, pos}
-use lib.ListN.{length}
-use lib.Seq.{paste, paste-zero, paste-suc, length-paste, take_all}
-use mir.Syntax.{w16, w32}
-use Rattle.signed.specs.CodeLaws.{Widened, widened}
-use Rattle.lists.specs.Written.{written}
+use lib.Seq.{paste}
 use Rattle.rules.specs.Block.{words}
-use Rattle.rules.specs.BlockLaws.{length_words, words_at}
 use Rattle.memory.proofs.write_values.Given as goal
 
 abbrev pub invariant-loop-i : goal.invariant-loop-i

@@ -1,6 +1,5 @@
 -- A number of i32 is the same in i64, so the result is that of `nearest_in` at the trigger.
 use mathlib.Core.Path.{◌∙◌}
-use borrow.Author.Rules.{rules}
 use mir.Syntax.{w64}
 use mir.Val.{SFits}
 use mir.Facts.{to_z-of_z, sfits_widen}

@@ -2,7 +2,6 @@
 use mathlib.Core.Path.{ap}
 use Prim.Native.Nat.{ℕ, ◌%◌}
 use native.Mathlib.Omega.{arith}
-use borrow.Author.Rules.{rules}
 use Rattle.package.specs.declared.records.Status.{Status}
 use Rattle.rules.specs.ProbeLaws.{count_is}
 use Rattle.rules.specs.Status.{status_answer}

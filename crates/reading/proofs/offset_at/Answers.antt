@@ -1,8 +1,7 @@
 -- Each of the three numbers read is that of the record, and the record of them is the one that the area holds under n.
-use native.Mathlib.Omega.{arith}
 use Rattle.signed.specs.RangeLaws.{or_zero}
 use Rattle.rules.specs.Stores.{offsets}
-use Rattle.reading.proofs.Laws.{Known, asked, given, held_at}
+use Rattle.reading.proofs.Laws.{Known, given, held_at}
 use Rattle.reading.proofs.offset_at.Goals as goal
 use Rattle.reading.proofs.offset_at.Goals.{Start}
 

@@ -1,11 +1,9 @@
 -- The seven numbers of the record, and the probe that is read from them.
 use mathlib.Core.Path.{ap, ◌∙◌}
-use native.Mathlib.Omega.{arith}
-use borrow.Author.Rules.{rules}
 use Rattle.signed.specs.RangeLaws.{or_zero}
 use Rattle.rules.specs.Stores.{probes}
 use Rattle.area.specs.Table.{status_from}
-use Rattle.reading.proofs.Laws.{Known, asked, given, held_at}
+use Rattle.reading.proofs.Laws.{Known, given, held_at}
 use Rattle.reading.proofs.probe_at.Goals as goal
 use Rattle.reading.proofs.probe_at.Goals.{Start}
 

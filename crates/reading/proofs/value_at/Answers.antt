@@ -2,7 +2,6 @@
 use mathlib.Core.Path.{ap, ◌∙◌}
 use mir.Syntax.{w16, w32}
 use mir.Facts.{to_z-of_z}
-use borrow.Author.Rules.{rules}
 use Rattle.signed.specs.CodeLaws.{read_as}
 use Rattle.area.specs.Table.{value_from}
 use Rattle.reading.proofs.value_at.Goals as goal

@@ -1,8 +1,7 @@
 -- The tool's number names a record of the area; numbers 0 and 1 of it are its radius and its length, and that record is the wear held.
-use native.Mathlib.Omega.{arith}
 use Rattle.signed.specs.RangeLaws.{or_zero}
 use Rattle.rules.specs.Stores.{tools}
-use Rattle.reading.proofs.Laws.{Known, asked, given, held_at}
+use Rattle.reading.proofs.Laws.{Known, given, held_at}
 use Rattle.reading.proofs.wear_at.Goals as goal
 use Rattle.reading.proofs.wear_at.Goals.{Start}
 

@@ -6,7 +6,6 @@ use lib.IntN.{pos, negsuc, ◌-ℤ◌}
 use mir.Syntax.{w16, w32}
 use mir.Val.{SFits}
 use mir.Facts.{to_z_pos}
-use borrow.Author.Rules.{rules}
 use Rattle.signed.specs.Expressions.{Ex, bound, lit, sub, cast, Runs, run, cast_runs}
 use Rattle.rules.specs.BlockLaws.{twos_low, twos_high, less_whole}
 use Rattle.records.proofs.decode.Goals as goal

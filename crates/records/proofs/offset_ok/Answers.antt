@@ -1,5 +1,4 @@
 -- The test is that of `in_range`, of the number as it was given, with the limits of the definition.
-use borrow.Author.Rules.{rules}
 use Rattle.signed.specs.CodeLaws.{tested}
 use Rattle.rules.specs.Stores.{offset_range}
 use Rattle.records.proofs.offset_ok.Goals as goal

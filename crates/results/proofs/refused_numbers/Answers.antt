@@ -2,7 +2,6 @@
 use native.Mathlib.Omega.{arith}
 use mir.Syntax.{w32}
 use mir.Facts.{to_z_pos}
-use borrow.Author.Rules.{rules}
 use Rattle.results.proofs.refused_numbers.Goals as goal
 
 pub returns : goal.returns

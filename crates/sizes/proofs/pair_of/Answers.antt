@@ -1,49 +1,42 @@
 -- Both surfaces are bounded, so that width, centre and shift are computed without overflow; the pair is then equal field by field.
-use mathlib.Core.Path.{◌≡◌, ◌∙◌}
-use Prim.Native.Nat.{◌≤◌}
-use lib.IntN.{ℤ, nat_abs}
-use mir.Syntax.{w64}
-use borrow.Author.Rules.{rules}
+use Rattle.std.proofs.Common.{◌≡◌, ◌∙◌, ◌≤◌, ℤ, w64, rules}
+use Rattle.std.proofs.Math.IntN.{nat_abs}
 use Rattle.signed.specs.CodeLaws.{read}
 use Rattle.signed.specs.RangeLaws.{size_in}
 use Rattle.signed.specs.Expressions.{Ex, Runs, run}
+use Rattle.package.specs.declared.records.Probe.{Probe}
+use Rattle.package.specs.declared.arguments.Raws.{Raws}
 use Rattle.package.specs.declared.found.Pair.{Pair}
-use Rattle.rules.specs.Sizes.{pair_of}
-use Rattle.kinds.specs.Touches.{touch}
+use Rattle.rules.specs.Sizes.{Across, surface, pair_of}
+use Rattle.kinds.specs.Touches.{Positioned, across}
 use Rattle.sizes.specs.SizeLaws.{surface_size, width_code, centre_code, shift_code}
 use Rattle.sizes.proofs.pair_of.Goals as goal
-use Rattle.sizes.proofs.pair_of.Goals.{After-surface_of-high, Start}
 
 -- the two surfaces
-abbrev start : After-surface_of-high → Start
-start c = c.before.before
+module _ (x : Probe) (q : Raws) (p : Across) (h : Positioned q p) (l g : ℤ) (low : l ≡ surface x q p.low) (high : g ≡ surface x q p.high) where
+  low_size : nat_abs l ≤ 10100000
+  low_size = rw low (surface_size x q p.low h.low)
 
-low_size : (c : After-surface_of-high) → nat_abs c.before.surface_of-low.result ≤ 10100000
-low_size c = let s = start c in rw c.before.surface_of-low.ensures (surface_size s.args.x s.args.q (touch s.args.p.low) s.requires.positioned.low)
+  high_size : nat_abs g ≤ 10100000
+  high_size = rw high (surface_size x q p.high h.high)
 
-high_size : (c : After-surface_of-high) → nat_abs c.surface_of-high.result ≤ 10100000
-high_size c = let s = start c in rw c.surface_of-high.ensures (surface_size s.args.x s.args.q (touch s.args.p.high) s.requires.positioned.high)
+  abbrev wide : Ex w64
+  wide = width_code l g low_size high_size
 
-abbrev wide : After-surface_of-high → Ex w64
-wide c = width_code c.before.surface_of-low.result c.surface_of-high.result (low_size c) (high_size c)
+  wide_runs : Runs wide
+  wide_runs = run wide tt (search)
 
-wide_runs : (c : After-surface_of-high) → Runs (wide c)
-wide_runs c = run (wide c) tt (search)
+  abbrev middle : Ex w64
+  middle = centre_code l g low_size high_size
 
-abbrev middle : After-surface_of-high → Ex w64
-middle c = centre_code c.before.surface_of-low.result c.surface_of-high.result (low_size c) (high_size c)
+  middle_runs : Runs middle
+  middle_runs = run middle tt (search)
 
-middle_runs : (c : After-surface_of-high) → Runs (middle c)
-middle_runs c = run (middle c) tt (search)
+  abbrev moved : Ex w64
+  moved = shift_code l g low_size high_size p.set (size_in 10000000 p.set h.set)
 
-abbrev moved : After-surface_of-high → Ex w64
-moved c =
-    let s = start c in
-    shift_code c.before.surface_of-low.result c.surface_of-high.result (low_size c) (high_size c) s.args.p.set
-    (size_in 10000000 s.args.p.set s.requires.positioned.set)
-
-moved_runs : (c : After-surface_of-high) → Runs (moved c)
-moved_runs c = run (moved c) tt (search)
+  moved_runs : Runs moved
+  moved_runs = run moved tt (search)
 
 -- a pair by its fields
 same_pair : {w v c d s t z y : ℤ} → w ≡ v → c ≡ d → s ≡ t → z ≡ y
@@ -53,24 +46,31 @@ same_pair e f g h = λ i. record { width = e i; centre = f i; shift = g i; set =
 pub returns : goal.returns
 unfolding pair_of
 returns c =
-    let h = c.before.before.before in
-    let s = start h in
-    let low = h.before.surface_of-low.ensures in
-    let high = h.surface_of-high.ensures in
-    same_pair ((wide_runs h).value ∙ rw (low, high)) ((middle_runs h).value ∙ rw (low, high)) ((moved_runs h).value ∙ rw (low, high))
-    (read s.args.p.set (search rules))
+    let a = c.args in
+    let low = c.surface_of-low.ensures in
+    let high = c.surface_of-high.ensures in
+    same_pair
+    ((wide_runs a.x a.q (across a.p) c.requires.positioned _ _ low high).value ∙ rw (low, high))
+    ((middle_runs a.x a.q (across a.p) c.requires.positioned _ _ low high).value ∙ rw (low, high))
+    ((moved_runs a.x a.q (across a.p) c.requires.positioned _ _ low high).value ∙ rw (low, high))
+    (read a.p.set (search rules))
 
-sub-t6 : tie.Need-overflow-sub-t6
-sub-t6 c = search (wide_runs c).asks
+pub overflow_sub-result : goal.overflow_sub-result
+overflow_sub-result c =
+    search (wide_runs c.args.x c.args.q (across c.args.p) c.requires.positioned _ _ c.surface_of-low.ensures c.surface_of-high.ensures).asks
 
-add-t7 : tie.Need-overflow-add-t7
-add-t7 c = search (middle_runs c).asks
+pub overflow_add-result : goal.overflow_add-result
+overflow_add-result c =
+    search (middle_runs c.args.x c.args.q (across c.args.p) c.requires.positioned _ _ c.surface_of-low.ensures c.surface_of-high.ensures).asks
 
-add-t8 : tie.Need-overflow-add-t8
-add-t8 c = search (middle_runs c).asks
+pub overflow_add-result-2 : goal.overflow_add-result-2
+overflow_add-result-2 c =
+    search (middle_runs c.args.x c.args.q (across c.args.p) c.requires.positioned _ _ c.surface_of-low.ensures c.surface_of-high.ensures).asks
 
-mul-t9 : tie.Need-overflow-mul-t9
-mul-t9 c = search (moved_runs c.before.before).asks
+pub overflow_mul-result : goal.overflow_mul-result
+overflow_mul-result c =
+    search (moved_runs c.args.x c.args.q (across c.args.p) c.requires.positioned _ _ c.surface_of-low.ensures c.surface_of-high.ensures).asks
 
-sub-t10 : tie.Need-overflow-sub-t10
-sub-t10 c = search (moved_runs c.before.before).asks
+pub overflow_sub-result-2 : goal.overflow_sub-result-2
+overflow_sub-result-2 c =
+    search (moved_runs c.args.x c.args.q (across c.args.p) c.requires.positioned _ _ c.surface_of-low.ensures c.surface_of-high.ensures).asks

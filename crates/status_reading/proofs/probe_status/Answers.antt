@@ -1,11 +1,10 @@
 -- By cases: a wrong area, a probe number out of range, or the status that the probe's record holds.
-use mathlib.Core.Path.{◌≡◌, ap, ◌∙◌}
+use mathlib.Core.Path.{◌≡◌, ap, ◌∙◌, sym}
 use mathlib.Core.Bool.{true}
 use native.Mathlib.Omega.{arith}
 use mir.Syntax.{w32}
 use mir.Facts.{to_z-of_z}
-use borrow.Author.Rules.{rules}
-use Rattle.signed.specs.CodeLaws.{read_as, failed, passed}
+use Rattle.signed.specs.CodeLaws.{read_as}
 use Rattle.signed.specs.RangeLaws.{or_zero}
 use Rattle.rules.specs.Stores.{probe_number}
 use Rattle.rules.specs.Status.{status_answer}
@@ -25,15 +24,18 @@ returns-then-not-in_range c =
     let t = c.before in
     let e = t.before.before in
     let s = e.before in
-    c.no_status-then-not-in_range.ensures ∙ status_refused s.args.area.now e.if-area-ne-AREA.false s.args.probe (failed (number t.before) t.if-not-in_range.true)
+    c.no_status-then-not-in_range.ensures ∙ status_refused s.args.area.now e.if-area-ne-AREA.false s.args.probe (sym (number t.before) ∙ t.if-not-in_range.true)
 
 allowed : (c : Else-not-in_range) → probe_number c.before.before.before.args.probe ≡ true
-allowed c = passed (number c.before) c.if-not-in_range.false
+allowed c = sym (number c.before) ∙ c.if-not-in_range.false
 
 pub number_at-requires : goal.number_at-requires
 number_at-requires c =
-    let e = c.before.before in
-    (omega (arith, e.if-area-ne-AREA.false), (rw (to_z-of_z e.before.ranges.probe) (or_zero 3 e.before.args.probe (allowed c)), omega arith))
+    record {
+      s_in_bounds = omega (arith, c.if-area-ne-AREA.false);
+      n_value = rw (to_z-of_z c.ranges.probe) (or_zero 3 c.args.probe (allowed c));
+      j_lt_width = omega arith;
+    }
 
 pub returns : goal.returns
 returns c =

@@ -1,6 +1,5 @@
 -- After i turns the piece up to the first b has i bytes and those of the piece from i on, which is empty at a b and at the end.
-use Rattle.std.proofs.Common.{◌≡◌, ◌+◌, ◌-◌, ◌≤◌, length, drop, ap, arith, rules}
-use Rattle.text.specs.Pieces.{up_to}
+use Rattle.std.proofs.Common.{length, ap, arith}
 use Rattle.text.specs.PieceLaws.{up_next, up_hit, up_end}
 use Rattle.text.proofs.find.Goals as goal
 

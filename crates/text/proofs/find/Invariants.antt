@@ -1,6 +1,5 @@
-use Rattle.std.proofs.Common.{◌≡◌, ◌+◌, ◌-◌, ◌≤◌, length, drop, ap, arith, rules}
+use Rattle.std.proofs.Common.{◌≡◌, ◌+◌, ◌-◌, ◌≤◌, length, drop}
 use Rattle.text.specs.Pieces.{up_to}
-use Rattle.text.specs.PieceLaws.{up_next, up_hit, up_end}
 use Rattle.text.proofs.find.Given as goal
 
 abbrev pub invariant-loop-i : goal.invariant-loop-i

@@ -1,9 +1,7 @@
-use Rattle.std.proofs.Common.{◌≡◌, ℕ, ◌+◌, ◌-◌, ◌*◌, ◌^◌, ◌<◌, ◌≤◌, List, length, get_or, drop, ap, inl, inr, add-one, arith, rules}
-use native.Mathlib.Nat.{pow-succ', pow-le-pow_right}
+use Rattle.std.proofs.Common.{◌≡◌, ◌-◌, ◌^◌, ◌<◌, ◌≤◌, get_or, drop}
 use Rattle.text.specs.Numbers.{nought}
 use Rattle.text.specs.Pieces.{field}
-use Rattle.text.specs.PieceLaws.{field_next, field_within}
-use Rattle.text.proofs.Laws.{Passed, none_passed, digit_passed, stops, no_digits, nought_alone, ended}
+use Rattle.text.proofs.Laws.{Passed}
 use Rattle.text.proofs.read_whole.Given as goal
 
 abbrev pub invariant-loop-i : goal.invariant-loop-i

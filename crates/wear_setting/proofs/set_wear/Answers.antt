@@ -1,5 +1,5 @@
 -- Three refusals: a wrong area, the tool's number, a wear out of its range; where there is none both wears are in range, so that i32 holds them.
-use mathlib.Core.Path.{◌≡◌, refl, ap₂}
+use mathlib.Core.Path.{◌≡◌, refl, ap₂, sym, ◌∙◌}
 use mathlib.Core.Bool.{true, ◌&&◌}
 use native.Mathlib.Omega.{arith}
 use lib.IntN.{pos}
@@ -7,7 +7,7 @@ use mir.Syntax.{w32}
 use mir.Facts.{to_z-of_z}
 use borrow.Author.Rules.{rules}
 use Rattle.signed.specs.Ranges.{minus}
-use Rattle.signed.specs.CodeLaws.{Cast, casts, failed, passed, tested}
+use Rattle.signed.specs.CodeLaws.{Cast, casts, tested}
 use Rattle.signed.specs.RangeLaws.{or_zero}
 use Rattle.rules.specs.Refusals.{first}
 use Rattle.rules.specs.Stores.{tool_number, wear_range}
@@ -30,13 +30,13 @@ number c = tested tool_number c.before.before.ranges.tool c.in_range.ensures
 pub returns-then-not-in_range : goal.returns-then-not-in_range
 returns-then-not-in_range c =
     let w = c.before.before in
-    call_refused w.before.args.area.now (call w.before) w.if-area-ne-AREA.false (rw (failed (number c.before) c.if-not-in_range.true)) (λ q. omega (arith, q))
+    call_refused w.before.args.area.now (call w.before) w.if-area-ne-AREA.false (rw (sym (number c.before) ∙ c.if-not-in_range.true)) (λ q. omega (arith, q))
 
 abbrev start : After-in_range-3 → Start
 start c = c.before.before.before.before.before
 
 number_in : (c : After-in_range-3) → tool_number (start c).args.tool ≡ true
-number_in c = let n = c.before.before in passed (number n.before) n.if-not-in_range.false
+number_in c = let n = c.before.before in sym (number n.before) ∙ n.if-not-in_range.false
 
 wears : (c : After-in_range-3) →
     (c.before.in_range-2.result && c.in_range-3.result) ≡ (wear_range (start c).args.radius && wear_range (start c).args.length)
@@ -46,10 +46,10 @@ pub returns-then-not-in_range-2 : goal.returns-then-not-in_range-2
 returns-then-not-in_range-2 c =
     let v = c.before in
     call_refused (start v).args.area.now (call (start v)) v.before.before.before.before.if-area-ne-AREA.false
-    (rw (number_in v, failed (wears v) c.if-not-in_range-2.true)) (λ q. omega (arith, q))
+    (rw (number_in v, sym (wears v) ∙ c.if-not-in_range-2.true)) (λ q. omega (arith, q))
 
 none : (c : Else-not-in_range-2) → let s = start c.before in first (wear_rules s.args.tool s.args.radius s.args.length) ≡ 0
-none c = rw (number_in c.before, passed (wears c.before) c.if-not-in_range-2.false)
+none c = rw (number_in c.before, sym (wears c.before) ∙ c.if-not-in_range-2.false)
 
 kept : (c : Else-not-in_range-2) → let s = start c.before in Cast w32 s.args.radius × Cast w32 s.args.length
 kept c =

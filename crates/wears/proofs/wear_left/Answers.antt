@@ -1,14 +1,8 @@
 -- The wear, the factor (at most 2 in size, by the form) and the correction are bounded, so that the code's sum and product are exact.
-use mathlib.Core.Path.{◌≡◌, ap, ap₂, ◌∙◌}
-use mathlib.Core.Bool.{Bool, true, false, cond}
-use Prim.Native.Nat.{◌≤◌}
-use native.Mathlib.Omega.{arith}
-use lib.IntN.{ℤ, pos, nat_abs, ◌+ℤ◌, ◌*ℤ◌}
-use mir.Syntax.{w64}
-use borrow.Author.Rules.{rules}
+use Rattle.std.specs.Prelude.{◌≡◌, Bool, true, false, cond, ◌≤◌, ℤ, pos, nat_abs, ◌+ℤ◌, ◌*ℤ◌}
+use Rattle.std.proofs.Common.{ap, ap₂, ◌∙◌, arith, rules, w64, to_z, of_z}
 use Rattle.signed.specs.Differences.{ints, parts}
 use Rattle.signed.specs.Ranges.{minus}
-use Rattle.signed.specs.CodeLaws.{read}
 use Rattle.signed.specs.Expressions.{Ex, at, bound, add, mul, Runs, run}
 use Rattle.package.specs.declared.found.Form.{Form}
 use Rattle.package.specs.declared.found.Form.TheVariants.{Plane, Single, Double}
@@ -16,9 +10,9 @@ use Rattle.package.specs.declared.found.Kind.{Kind}
 use Rattle.rules.specs.Probes.{sign}
 use Rattle.rules.specs.ProbeLaws.{sign_size}
 use Rattle.rules.specs.Kinds.{by_form}
-use Rattle.rules.specs.Tool.{factor, wear_on}
+use Rattle.rules.specs.Tool.{factor, wear_on, on_length}
 use Rattle.wears.proofs.wear_left.Goals as goal
-use Rattle.wears.proofs.wear_left.Goals.{After-factor_of, After-wear_on, Start}
+use Rattle.wears.proofs.wear_left.Goals.{After-factor_of}
 
 -- ---- the factor, and its size
 side_size : (b : Bool) → nat_abs (cond b (pos 1) (minus 1)) ≤ 2
@@ -37,20 +31,17 @@ factor_size k direction = go k.form
     go Double = side_size k.inside
 
 module _ (c : After-factor_of) where
-  abbrev wear : After-wear_on
-  wear = c.before.before
+  direction_is : to_z w64 (of_z w64 c.args.a.direction) ≡ c.args.a.direction
+  direction_is = search rules
 
-  abbrev start : Start
-  start = wear.before.before.before
-
-  factor_is : c.factor_of.result ≡ factor start.args.k start.args.a.direction
-  factor_is = rw (read start.args.a.direction (search c.before.struct_told-2-1.given)) at c.factor_of.ensures
+  factor_is : c.factor_of.result ≡ factor c.args.k c.args.a.direction
+  factor_is = rw direction_is at c.factor_of.ensures
 
   abbrev left : Ex w64
   left =
-      add (bound wear.wear_on.result 2147483648 wear.wear_on.ensures.1 tt)
-      (mul (bound c.factor_of.result 2 (rw factor_is (factor_size start.args.k start.args.a.direction)) tt)
-      (at start.args.c 100000000 start.ranges.c start.requires))
+      add (bound c.wear_on.result 2147483648 c.wear_on.ensures.1 tt)
+      (mul (bound c.factor_of.result 2 (rw factor_is (factor_size c.args.k c.args.a.direction)) tt)
+      (at c.args.c 100000000 c.ranges.c c.requires))
 
   runs : Runs left
   runs = run left tt (search)
@@ -63,8 +54,6 @@ overflow_add-result c = search (runs c).asks
 
 pub returns : goal.returns
 returns c =
-    let a = (start c).args.a in
-    let l = (wear c).before in
-    let length = rw (read a.axis (search l.before.struct_told-1.given)) at l.on_length.ensures in
-    (runs c).value ∙ ap₂ (λ (w f : ℤ). w +ℤ f *ℤ (start c).args.c) ((wear c).wear_on.ensures.0 ∙ ap (λ (b : Bool). wear_on b (start c).args.w) length)
-    (factor_is c)
+    let axis : to_z w64 (of_z w64 c.args.a.axis) ≡ c.args.a.axis = search rules in
+    let length : c.on_length.result ≡ on_length c.args.k c.args.a.axis = rw axis at c.on_length.ensures in
+    (runs c).value ∙ ap₂ (λ (w f : ℤ). w +ℤ f *ℤ c.args.c) (c.wear_on.ensures.0 ∙ ap (λ (b : Bool). wear_on b c.args.w) length) (factor_is c)

@@ -1,17 +1,24 @@
 -- By the cases of either way of measuring: an area of another length; refused by the arguments, then by the records; done, with the change of the call.
-use mathlib.Core.Path.{◌≡◌, sym, ap, ◌∙◌}
+use mathlib.Core.Path.{◌≡◌, sym, ap, ap₂, ◌∙◌}
+use mathlib.Core.List.{List}
+use Prim.Native.Nat.{ℕ}
+use lib.IntN.{ℤ}
+use mir.Syntax.{w64}
+use mir.Val.{to_z, of_z}
 use borrow.Author.Rules.{rules}
-use Rattle.signed.specs.CodeLaws.{read}
 use Rattle.package.specs.declared.records.Offset.{Offset}
+use Rattle.package.specs.declared.found.Kind.{Kind}
 use Rattle.package.specs.declared.found.Sizes.{Sizes}
 use Rattle.package.specs.declared.found.Tests.{Tests}
 use Rattle.package.specs.declared.arguments.ZeroMeasurement.{ZeroMeasurement}
 use Rattle.package.specs.declared.found.ZeroRecords.{ZeroRecords}
 use Rattle.rules.specs.Stores.{offsets}
 use Rattle.rules.specs.Refusals.{first}
+use Rattle.rules.specs.Kinds.{zero_kind}
 use Rattle.rules.specs.Measuring.{record_rules}
+use Rattle.rules.specs.Sizes.{sizes_of}
 use Rattle.rules.specs.Zero.{whole_zero, zero_kind_of, zero_arguments, zero_sizes, offset_left, zero_tests, zero_rules}
-use Rattle.rules.specs.Passed.{ZeroArgumentsPassed, zero_arguments_passed, tests_passed}
+use Rattle.rules.specs.Passed.{ZeroArgumentsPassed, zero_arguments_passed, tests_passed, TestsPassed}
 use Rattle.rules.specs.Results.{zero_filled, zero_evaluation}
 use Rattle.rules.specs.Changes.{write}
 use Rattle.rules.specs.Calls.{zero_read}
@@ -22,138 +29,150 @@ use Rattle.zero_offset.specs.ZeroFound.{ZeroFound, found_small}
 use Rattle.measuring.specs.Reply.{zero}
 use Rattle.measuring.specs.ReplyLaws.{Asked, by_arguments, by_tests, small, wrong_area, refused, done}
 use Rattle.zero_measuring.proofs.evaluate_zero.Goals as goal
-use Rattle.zero_measuring.proofs.evaluate_zero.Goals.{After-offset_left, After-records_refusal-refusal, After-sizes_of-s, After-zero_kind_of-k, After-zero_records-r, Else-area-ne-AREA, Else-stated-ne-DONE, Start, Then-stated-ne-DONE}
 
-abbrev asked : Start → Asked
-asked s = record { measurement = zero (whole_zero s.args.a); area = s.args.area.now; results = s.args.results.now; place = s.args.place }
+-- ---- of what the code found
+module _ (a : ZeroMeasurement) where
+  kind_is : {k : Kind} → k ≡ zero_kind (to_z w64 (of_z w64 a.probing.kind)) → to_z w64 (of_z w64 a.probing.kind) ≡ a.probing.kind → k ≡ zero_kind_of a
+  kind_is e f = e ∙ ap zero_kind f
+
+  none : {n : ℕ} → n ≡ first (zero_arguments a) → n ≡ 0 → first (zero_arguments a) ≡ 0
+  none e f = sym e ∙ f
+
+  passed : {n : ℕ} → n ≡ first (zero_arguments a) → n ≡ 0 → ZeroArgumentsPassed a
+  passed e f = zero_arguments_passed a (none e f)
+
+  found : (r : ZeroRecords) {k : Kind} {s : Sizes} → ZeroArgumentsPassed a → k ≡ zero_kind_of a → s ≡ sizes_of r.probe k a.probing a.raws
+      → ZeroFound r a k s
+  found r p k s = record { arguments = p; kind = k; sizes = s ∙ ap (λ (k : Kind). sizes_of r.probe k a.probing a.raws) k }
+
+  refusal_is : (r : ZeroRecords) {t : Tests} {n : ℕ} → n ≡ first (record_rules t) → t ≡ zero_tests r a → n ≡ first (record_rules (zero_tests r a))
+  refusal_is r e f = e ∙ ap (λ (t : Tests). first (record_rules t)) f
+
+  tests : (r : ZeroRecords) {n : ℕ} → n ≡ first (record_rules (zero_tests r a)) → n ≡ 0 → TestsPassed (zero_tests r a)
+  tests r e f = tests_passed (zero_tests r a) (sym e ∙ f)
+
+  module _ (area results : List ℤ) (place : ℕ) where
+    abbrev asked : Asked
+    asked = record { measurement = zero (whole_zero a); area = area; results = results; place = place }
+
+    abbrev records : ZeroRecords
+    records = zero_read (held area) a
+
+    number_stated : {n : ℕ} → n ≡ first (zero_arguments a) → (n ≡ 0 → ⊥) → n ≡ first (zero_rules records a)
+    number_stated e z = by_arguments asked e z
+
+    number_is : {r : ZeroRecords} {n : ℕ} → first (zero_arguments a) ≡ 0 → n ≡ first (record_rules (zero_tests r a)) → r ≡ records
+        → n ≡ first (zero_rules records a)
+    number_is z e f = by_tests asked z (e ∙ ap (λ (r : ZeroRecords). first (record_rules (zero_tests r a))) f)
 
 pub returns-then-area-ne-AREA : goal.returns-then-area-ne-AREA
 returns-then-area-ne-AREA c =
-    let s = c.before.before in
-    rw (c.not_answered.ensures.0, c.not_answered.ensures.1) (wrong_area (asked s) c.before.if-area-ne-AREA.true)
+    let s = c.args in
+    rw (c.not_answered.ensures.0, c.not_answered.ensures.1) (wrong_area (asked s.a s.area.now s.results.now s.place) c.if-area-ne-AREA.true)
 
 -- ---- the arguments
-module _ (k : After-zero_kind_of-k) where
-  abbrev whole : Else-area-ne-AREA
-  whole = k.before.before.before.before
-
-  abbrev start : Start
-  start = whole.before
-
-  kind_is : k.zero_kind_of-k.result ≡ zero_kind_of start.args.a
-  kind_is = rw (read start.args.a.probing-1.kind k.before.struct_told-1.given.0.1) at k.zero_kind_of-k.ensures
-
-number_stated : (c : Then-stated-ne-DONE) → let s = start c.before.before in
-    c.before.zero_refusal-stated.result ≡ first (zero_rules (zero_read (held s.args.area.now) s.args.a) s.args.a)
-number_stated c = by_arguments (asked (start c.before.before)) c.before.zero_refusal-stated.ensures c.if-stated-ne-DONE.true
-
 pub refused-requires : goal.refused-requires
-refused-requires c = let t = c.before in small (asked (start t.before.before)) (number_stated t)
+refused-requires c =
+    let s = c.args in
+    small (asked s.a s.area.now s.results.now s.place)
+    (number_stated s.a s.area.now s.results.now s.place c.zero_refusal-stated.ensures c.if-stated-ne-DONE.true)
 
 pub returns-then-stated-ne-DONE : goal.returns-then-stated-ne-DONE
 returns-then-stated-ne-DONE c =
-    let r = c.before.refused.ensures in
-    let t = c.before.before.before in
-    let k = t.before.before in
-    rw (r.0.0, r.0.1) (refused (asked (start k)) (whole k).if-area-ne-AREA.false (number_stated t) t.if-stated-ne-DONE.true r.1)
+    let s = c.args in
+    let r = c.refused.ensures in
+    rw (r.0.0, r.0.1)
+    (refused (asked s.a s.area.now s.results.now s.place) c.if-area-ne-AREA.false
+    (number_stated s.a s.area.now s.results.now s.place c.zero_refusal-stated.ensures c.if-stated-ne-DONE.true) c.if-stated-ne-DONE.true r.1)
 
 -- ---- where they pass
-module _ (c : Else-stated-ne-DONE) where
-  abbrev kind : After-zero_kind_of-k
-  kind = c.before.before
-
-  none : first (zero_arguments (start kind).args.a) ≡ 0
-  none = sym c.before.zero_refusal-stated.ensures ∙ c.if-stated-ne-DONE.false
-
-  passed : ZeroArgumentsPassed (start kind).args.a
-  passed = zero_arguments_passed (start kind).args.a none
-
 pub zero_records-r-requires : goal.zero_records-r-requires
-zero_records-r-requires c = let e = c.before in ((whole (kind e)).if-area-ne-AREA.left, (passed e).numbers)
+zero_records-r-requires c = record {
+  area_len = c.if-area-ne-AREA.false;
+  zero_numbers = (passed c.args.a c.zero_refusal-stated.ensures c.if-stated-ne-DONE.false).numbers;
+}
 
 pub sizes_of-s-requires : goal.sizes_of-s-requires
-sizes_of-s-requires c = let e = c.before.before.before in rw (kind_is (kind e)) ((passed e).numbers.numbers, (passed e).positions)
+sizes_of-s-requires c =
+    let a = c.args.a in
+    let p = passed a c.zero_refusal-stated.ensures c.if-stated-ne-DONE.false in
+    let read : to_z w64 (of_z w64 a.probing.kind) ≡ a.probing.kind = search rules in
+    let k = kind_is a c.zero_kind_of-k.ensures read in
+    rw k (p.numbers.numbers, p.positions)
 
-module _ (c : After-sizes_of-s) where
-  abbrev at_records : After-zero_records-r
-  at_records = c.before.before
-
-  abbrev at-passed : Else-stated-ne-DONE
-  at-passed = at_records.before.before
-
-  abbrev at-start : Start
-  at-start = start (kind at-passed)
-
-  found : ZeroFound at_records.zero_records-r.result at-start.args.a (kind at-passed).zero_kind_of-k.result c.sizes_of-s.result
-  found = let k = kind_is (kind at-passed) in record { arguments = passed at-passed; kind = k; sizes = rw k at c.sizes_of-s.ensures }
-
-  sizes_are : c.sizes_of-s.result ≡ zero_sizes (zero_read (held at-start.args.area.now) at-start.args.a) at-start.args.a
-  sizes_are = found.sizes ∙ ap (λ (r : ZeroRecords). zero_sizes r at-start.args.a) at_records.zero_records-r.ensures
-
-module _ (c : After-records_refusal-refusal) where
-  abbrev at-sizes : After-sizes_of-s
-  at-sizes = c.before.before
-
-  abbrev records : ZeroRecords
-  records = (at_records at-sizes).zero_records-r.result
-
-  abbrev arguments : ZeroMeasurement
-  arguments = (at-start at-sizes).args.a
-
-  refusal_is : c.records_refusal-refusal.result ≡ first (record_rules (zero_tests records arguments))
-  refusal_is = c.records_refusal-refusal.ensures ∙ ap (λ (t : Tests). first (record_rules t)) c.before.zero_tests.ensures
-
-  number_is : c.records_refusal-refusal.result ≡ first (zero_rules (zero_read (held (at-start at-sizes).args.area.now) arguments) arguments)
-  number_is =
-      by_tests (asked (at-start at-sizes)) (none (at-passed at-sizes))
-      (refusal_is ∙ ap (λ (r : ZeroRecords). first (record_rules (zero_tests r arguments))) (at_records at-sizes).zero_records-r.ensures)
+pub zero_tests-requires : goal.zero_tests-requires
+zero_tests-requires c =
+    let a = c.args.a in
+    let p = passed a c.zero_refusal-stated.ensures c.if-stated-ne-DONE.false in
+    let read : to_z w64 (of_z w64 a.probing.kind) ≡ a.probing.kind = search rules in
+    found a c.zero_records-r.result p (kind_is a c.zero_kind_of-k.ensures read) c.sizes_of-s.ensures
 
 pub refused-requires-then-refusal-ne-DONE : goal.refused-requires-then-refusal-ne-DONE
-refused-requires-then-refusal-ne-DONE c = let q = c.before.before in small (asked (at-start (at-sizes q))) (number_is q)
+refused-requires-then-refusal-ne-DONE c =
+    let s = c.args in
+    let z = none s.a c.zero_refusal-stated.ensures c.if-stated-ne-DONE.false in
+    let e = refusal_is s.a c.zero_records-r.result c.records_refusal-refusal.ensures c.zero_tests.ensures in
+    small (asked s.a s.area.now s.results.now s.place) (number_is s.a s.area.now s.results.now s.place z e c.zero_records-r.ensures)
 
 pub returns-then-refusal-ne-DONE : goal.returns-then-refusal-ne-DONE
 returns-then-refusal-ne-DONE c =
-    let r = c.before.refused-then-refusal-ne-DONE.ensures in
-    let t = c.before.before.before in
-    let q = t.before in
-    let z = at-sizes q in
-    rw (r.0.0, r.0.1) (refused (asked (at-start z)) (whole (kind (at-passed z))).if-area-ne-AREA.left (number_is q) t.if-refusal-ne-DONE.true r.1)
+    let s = c.args in
+    let r = c.refused-then-refusal-ne-DONE.ensures in
+    let z = none s.a c.zero_refusal-stated.ensures c.if-stated-ne-DONE.false in
+    let e = refusal_is s.a c.zero_records-r.result c.records_refusal-refusal.ensures c.zero_tests.ensures in
+    rw (r.0.0, r.0.1)
+    (refused (asked s.a s.area.now s.results.now s.place) c.if-area-ne-AREA.false
+    (number_is s.a s.area.now s.results.now s.place z e c.zero_records-r.ensures) c.if-refusal-ne-DONE.true r.1)
 
 -- ---- done
 pub offset_left-requires : goal.offset_left-requires
 offset_left-requires c =
-    let e = c.before in
-    let q = e.before in
-    (found (at-sizes q), (tests_passed (zero_tests (records q) (arguments q)) (sym (refusal_is q) ∙ e.if-refusal-ne-DONE.false)).range)
-
-abbrev at-tests : After-offset_left → After-records_refusal-refusal
-at-tests c = c.before.before.before
+    let a = c.args.a in
+    let r = c.zero_records-r.result in
+    let p = passed a c.zero_refusal-stated.ensures c.if-stated-ne-DONE.false in
+    let read : to_z w64 (of_z w64 a.probing.kind) ≡ a.probing.kind = search rules in
+    record {
+      zero_found = found a r p (kind_is a c.zero_kind_of-k.ensures read) c.sizes_of-s.ensures;
+      a_value = (tests a r (refusal_is a r c.records_refusal-refusal.ensures c.zero_tests.ensures) c.if-refusal-ne-DONE.false).range;
+    }
 
 pub put_zero-requires : goal.put_zero-requires
-put_zero-requires c = let e = at-passed (at-sizes (at-tests c)) in ((whole (kind e)).if-area-ne-AREA.left, (passed e).numbers)
+put_zero-requires c = record {
+  area_len = c.if-area-ne-AREA.false;
+  zero_numbers = (passed c.args.a c.zero_refusal-stated.ensures c.if-stated-ne-DONE.false).numbers;
+}
 
 pub put_zero_numbers-requires : goal.put_zero_numbers-requires
 put_zero_numbers-requires c =
-    let q = at-tests c.before.before.before in
-    let z = at-sizes q in
-    (kind_is (kind (at-passed z)), (passed (at-passed z), found_small (records q) (arguments q) (found z)))
+    let a = c.args.a in
+    let r = c.zero_records-r.result in
+    let p = passed a c.zero_refusal-stated.ensures c.if-stated-ne-DONE.false in
+    let read : to_z w64 (of_z w64 a.probing.kind) ≡ a.probing.kind = search rules in
+    let k = kind_is a c.zero_kind_of-k.ensures read in
+    record { k_value = k; zero_arguments_passed = (p, found_small r a (found a r p k c.sizes_of-s.ensures)) }
 
 pub zero_evaluation-requires : goal.zero_evaluation-requires
 zero_evaluation-requires c =
-    let q = at-tests c.before.before.before.before.before in
-    found_small (records q) (arguments q) (found (at-sizes q))
+    let a = c.args.a in
+    let r = c.zero_records-r.result in
+    let p = passed a c.zero_refusal-stated.ensures c.if-stated-ne-DONE.false in
+    let read : to_z w64 (of_z w64 a.probing.kind) ≡ a.probing.kind = search rules in
+    found_small r a (found a r p (kind_is a c.zero_kind_of-k.ensures read) c.sizes_of-s.ensures)
 
 pub returns : goal.returns
 returns c =
-    let n = c.before.before in
-    let p = n.before.before.before in
-    let l = p.before in
-    let q = at-tests l in
-    let z = at-sizes q in
-    let s = at-start z in
-    let a = s.args.a in
-    let left = l.offset_left.ensures ∙ ap (λ (r : ZeroRecords). offset_left r a) (at_records z).zero_records-r.ensures in
-    done (asked s) (whole (kind (at-passed z))).if-area-ne-AREA.left (sym (number_is q) ∙ l.before.before.if-refusal-ne-DONE.false)
-    (c.zero_evaluation.ensures ∙ ap zero_evaluation (sizes_are z))
-    (p.put_zero.ensures ∙ ap (λ (o : Offset). renewed s.args.area.now (write offsets a.offset o)) left)
-    (n.put_zero_numbers.ensures ∙ ap (λ (x : Sizes). array_after s.args.results.now s.args.place (zero_filled a x)) (sizes_are z))
+    let s = c.args in
+    let a = s.a in
+    let r = c.zero_records-r.result in
+    let p = passed a c.zero_refusal-stated.ensures c.if-stated-ne-DONE.false in
+    let read : to_z w64 (of_z w64 a.probing.kind) ≡ a.probing.kind = search rules in
+    let f = found a r p (kind_is a c.zero_kind_of-k.ensures read) c.sizes_of-s.ensures in
+    let sizes = f.sizes ∙ ap (λ (r : ZeroRecords). zero_sizes r a) c.zero_records-r.ensures in
+    let z = none a c.zero_refusal-stated.ensures c.if-stated-ne-DONE.false in
+    let e = refusal_is a r c.records_refusal-refusal.ensures c.zero_tests.ensures in
+    let left = c.offset_left.ensures ∙ ap (λ (r : ZeroRecords). offset_left r a) c.zero_records-r.ensures in
+    done (asked a s.area.now s.results.now s.place) c.if-area-ne-AREA.false
+    (sym (number_is a s.area.now s.results.now s.place z e c.zero_records-r.ensures) ∙ c.if-refusal-ne-DONE.false)
+    (c.zero_evaluation.ensures ∙ ap zero_evaluation sizes)
+    (c.put_zero.ensures ∙ ap (λ (o : Offset). renewed s.area.now (write offsets a.offset o)) left)
+    (c.put_zero_numbers.ensures ∙ ap (λ (x : Sizes). array_after s.results.now s.place (zero_filled a x)) sizes)

@@ -8,7 +8,6 @@ use lib.IntN.{ℤ, pos, negsuc, nat_abs, ◌-ℤ◌}
 use lib.Signed.{◌≤ℤ◌}
 use mir.Syntax.{w64}
 use mir.Facts.{to_z-of_z}
-use borrow.Author.Rules.{rules}
 use borrow.Author.Tests.{lt-ltb}
 use Rattle.signed.specs.Ranges.{within}
 use Rattle.signed.specs.RangeLaws.{within_is, is_within}

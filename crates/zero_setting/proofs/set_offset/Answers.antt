@@ -6,7 +6,6 @@ use lib.IntN.{ℤ, pos}
 use mir.Syntax.{w32, w64}
 use mir.Val.{SFits}
 use mir.Facts.{to_z-of_z}
-use borrow.Author.Rules.{rules}
 use Rattle.signed.specs.Ranges.{minus}
 use Rattle.signed.specs.CodeLaws.{Cast, casts}
 use Rattle.signed.specs.RangeLaws.{or_zero}
@@ -47,16 +46,13 @@ kept c =
 
 pub put_record-requires : goal.put_record-requires
 put_record-requires c =
-    let e = c.before.before in
-    let w = e.before.before in
-    let s = w.before in (
-      omega (arith, w.if-area-ne-AREA.false),
-      (
-        rw (to_z-of_z s.ranges.offset)
-            (or_zero 4 s.args.offset (offset_passed s.args.offset s.args.v1 s.args.v2 s.args.v3 (none e)).number),
-        refl,
-      ),
-    )
+    record {
+      s_in_bounds = omega (arith, c.if-area-ne-AREA.false);
+      n_value =
+          rw (to_z-of_z c.ranges.offset)
+          (or_zero 4 c.args.offset (offset_passed c.args.offset c.args.v1 c.args.v2 c.args.v3 (none c.before.before)).number);
+      numbers_len = refl;
+    }
 
 pub returns : goal.returns
 returns c =
