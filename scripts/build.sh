@@ -97,7 +97,8 @@ prove() { # crate
 stale() { # product, source ..
     local product=$1
     shift
-    [ ! -f "$product" ] || [ ! -f "$product.built" ] || [ -n "$(find "$@" \( -name target -o -name out \) -prune -o -type f -newer "$product.built" -print -quit)" ]
+    [ -f "$product" ] && [ -f "$product.built" ] || return 0
+    [ -n "$(find "$@" \( -name target -o -name out \) -prune -o -type f -newer "$product.built" -print -quit)" ]
 }
 
 # Makes a product by a command where it is stale.
