@@ -1,5 +1,5 @@
 -- What is lent turns it away, or it is handed on: both by the laws of either way of measuring.
-use mathlib.Core.Path.{◌≡◌, sym, ap, ◌∙◌}
+use mathlib.Core.Path.{sym, ap, ◌∙◌}
 use lib.Dec.{eqb}
 use lib.IntN.{ℤ}
 use lib.ListN.{length}

@@ -1,6 +1,6 @@
 -- What is lent turns it away, or it is handed on: both by the laws of either way of measuring.
 use mathlib.Core.Path.{◌≡◌, sym, ap, ◌∙◌}
-use mathlib.Core.Bool.{Bool, ◌&&◌, true, and-eq-true_iff}
+use mathlib.Core.Bool.{Bool, ◌&&◌, and-eq-true_iff}
 use mathlib.Core.List.{List}
 use Prim.Native.Nat.{ℕ}
 use lib.Dec.{eqb}

@@ -1,5 +1,5 @@
 -- By the cases of either way of measuring: an area of another length; refused by the arguments, then by the records; done, with the change of the call.
-use mathlib.Core.Path.{◌≡◌, sym, ap, ap₂, ◌∙◌}
+use mathlib.Core.Path.{◌≡◌, sym, ap, ◌∙◌}
 use mathlib.Core.List.{List}
 use Prim.Native.Nat.{ℕ}
 use lib.IntN.{ℤ}

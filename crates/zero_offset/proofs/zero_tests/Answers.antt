@@ -1,124 +1,102 @@
 -- By the form: a hole or shaft tests axes 1 and 2, another kind the axis it states, and these are all the axes that are corrected.
-use mathlib.Core.Path.{◌≡◌, refl, sym, ap, ap₂, subst, ◌∙◌}
-use mathlib.Core.Bool.{Bool, true, ◌&&◌}
-use Prim.Native.Nat.{◌≤◌}
-use native.Mathlib.Omega.{arith}
-use lib.IntN.{ℤ, pos, nat_abs, ◌+ℤ◌}
-use lib.Signed.{◌≤ℤ◌}
-use mir.Syntax.{w64}
-use mir.Val.{to_z, of_z}
-use borrow.Author.Rules.{rules}
+use Rattle.std.specs.Prelude.{◌≡◌, refl, Bool, true, ◌&&◌, ◌≤◌, ℤ, pos, nat_abs, ◌+ℤ◌, ◌≤ℤ◌}
+use Rattle.std.proofs.Common.{sym, ap, ap₂, subst, ◌∙◌, arith, rules, w64, to_z, of_z}
 use Rattle.signed.specs.Differences.{ints, parts}
 use Rattle.signed.specs.RangeLaws.{within_is}
-use Rattle.signed.specs.CodeLaws.{read}
 use Rattle.package.specs.declared.found.Form.TheVariants.{Double}
+use Rattle.package.specs.declared.found.Kind.{Kind}
+use Rattle.package.specs.declared.found.Sizes.{Sizes}
+use Rattle.package.specs.declared.found.Tests.{Tests}
+use Rattle.package.specs.declared.arguments.ZeroMeasurement.{ZeroMeasurement}
+use Rattle.package.specs.declared.found.ZeroRecords.{ZeroRecords}
 use Rattle.rules.specs.Stores.{offset_range}
 use Rattle.rules.specs.Sizes.{numbers_ok, calibrated_ok, pairs_ok}
-use Rattle.rules.specs.Zero.{zero_kind_of, zero_sizes, growth, within_twice_tsa, axis_of, axis_left, zero_growth, zero_tests}
+use Rattle.rules.specs.Zero.{zero_kind_of, growth, within_twice_tsa, axis_of, axis_left, zero_growth, zero_tests}
 use Rattle.sizes.specs.SizeLaws.{SizesSmall}
-use Rattle.growths.proofs.Laws.{One}
-use Rattle.zero_offset.specs.ZeroFound.{found_small, growth_found}
-use Rattle.zero_offset.proofs.Laws.{every_two, every_one, one_axis}
+use Rattle.zero_offset.specs.ZeroFound.{ZeroFound, found_small, growth_found}
+use Rattle.zero_offset.proofs.Laws.{One, every_two, every_one, one_axis}
 use Rattle.zero_offset.proofs.zero_tests.Goals as goal
-use Rattle.zero_offset.proofs.zero_tests.Goals.{After-calibrated_ok-calibrated, After-struct_told-1, After-widths_ok-pairs, Start}
-
-numbers : (s : Start) → numbers_ok s.args.k s.args.a.probing-1 ≡ true
-numbers s = rw s.requires.kind s.requires.arguments.numbers.numbers
 
 limit_size : (z : ℤ) → (pos 0 ≤ℤ z) × (z ≤ℤ pos 1000000) → nat_abs z ≤ 1000000
 limit_size = parts _ (λ a b. simp ints (omega arith))
 
-small : (s : Start) → SizesSmall s.args.s
-small s = found_small s.args.r s.args.a s.requires
+module _ (r : ZeroRecords) (k : Kind) (a : ZeroMeasurement) (s : Sizes) (found : ZeroFound r a k s) where
+  numbers : numbers_ok k a.probing ≡ true
+  numbers = rw found.kind found.arguments.numbers.numbers
 
-limited : (s : Start) → SizesSmall s.args.s × (nat_abs s.args.a.tsa ≤ 1000000)
-limited s = (small s, limit_size s.args.a.tsa (within_is (pos 0) (pos 1000000) s.args.a.tsa s.requires.arguments.tsa))
+  limited : SizesSmall s × (nat_abs a.tsa ≤ 1000000)
+  limited = (found_small r a found, limit_size a.tsa (within_is (pos 0) (pos 1000000) a.tsa found.arguments.tsa))
 
-pub calibrated_ok-calibrated-requires : goal.calibrated_ok-calibrated-requires
-calibrated_ok-calibrated-requires c = numbers c.before.before.before
+  abbrev kept : ℤ → Bool
+  kept n = within_twice_tsa a (zero_growth r a n)
 
-abbrev start : After-widths_ok-pairs → Start
-start c = c.before.before.before.before.before
+  abbrev inside : ℤ → Bool
+  inside n = offset_range (axis_left r a n)
+
+  kept_is : (n : ℤ) {b : Bool} → b ≡ within_twice_tsa a (growth k a.probing s n) → b ≡ kept n
+  kept_is n e = e ∙ ap (within_twice_tsa a) (growth_found r a found n)
+
+  inside_is : (n : ℤ) {b : Bool} → b ≡ offset_range (axis_of r.offset n +ℤ growth k a.probing s n) → b ≡ inside n
+  inside_is n e = e ∙ ap (λ (g : ℤ). offset_range (axis_of r.offset n +ℤ g)) (growth_found r a found n)
+
+  -- what is found, of parts that are those of the rules
+  by_parts : {calibrated pairs tsa range : Bool} → calibrated ≡ calibrated_ok r.probe.status k a.probing → pairs ≡ pairs_ok k a.probing s
+      → tsa ≡ (zero_tests r a).tsa → range ≡ (zero_tests r a).range
+      → ◌≡◌ {A = Tests} (record { calibrated = calibrated; pairs = pairs; tsa = tsa; tdif = true; range = range }) (zero_tests r a)
+  unfolding zero_tests
+  by_parts c p t g = rw (c, p, t, g, found.kind, found.sizes)
+
+  two : {c p t₁ t₂ g₁ g₂ : Bool} → k.form ≡ Double → c ≡ calibrated_ok r.probe.status k a.probing → p ≡ pairs_ok k a.probing s
+      → t₁ ≡ within_twice_tsa a (growth k a.probing s (pos 1)) → t₂ ≡ within_twice_tsa a (growth k a.probing s (pos 2))
+      → g₁ ≡ offset_range (axis_of r.offset (pos 1) +ℤ growth k a.probing s (pos 1))
+      → g₂ ≡ offset_range (axis_of r.offset (pos 2) +ℤ growth k a.probing s (pos 2))
+      → ◌≡◌ {A = Tests} (record { calibrated = c; pairs = p; tsa = t₁ && t₂; tdif = true; range = g₁ && g₂ }) (zero_tests r a)
+  unfolding zero_tests
+  two f c p t₁ t₂ g₁ g₂ =
+      let d : (zero_kind_of a).form ≡ Double = sym (ap (λ k. k.form) found.kind) ∙ f in
+      by_parts c p (ap₂ ◌&&◌ (kept_is (pos 1) t₁) (kept_is (pos 2) t₂) ∙ sym (every_two (zero_kind_of a) a.probing kept d))
+      (ap₂ ◌&&◌ (inside_is (pos 1) g₁) (inside_is (pos 2) g₂) ∙ sym (every_two (zero_kind_of a) a.probing inside d))
+
+  one : {c p t g : Bool} → One k.form → c ≡ calibrated_ok r.probe.status k a.probing → p ≡ pairs_ok k a.probing s
+      → t ≡ within_twice_tsa a (growth k a.probing s a.probing.axis)
+      → g ≡ offset_range (axis_of r.offset a.probing.axis +ℤ growth k a.probing s a.probing.axis)
+      → ◌≡◌ {A = Tests} (record { calibrated = c; pairs = p; tsa = t; tdif = true; range = g }) (zero_tests r a)
+  unfolding zero_tests
+  one h c p t g =
+      let o : One (zero_kind_of a).form = subst (λ (k : Kind). One k.form) found.kind h in
+      by_parts c p (kept_is a.probing.axis t ∙ sym (every_one (zero_kind_of a) a.probing kept o))
+      (inside_is a.probing.axis g ∙ sym (every_one (zero_kind_of a) a.probing inside o))
 
 pub growth_ok-requires : goal.growth_ok-requires
-growth_ok-requires c = limited (start c.before.before)
+growth_ok-requires c = limited c.args.r c.args.k c.args.a c.args.s c.requires
 
 pub growth_ok-requires-in-Double : goal.growth_ok-requires-in-Double
-growth_ok-requires-in-Double c = limited (start c.before.before.before)
+growth_ok-requires-in-Double c = limited c.args.r c.args.k c.args.a c.args.s c.requires
 
 pub left_ok-requires : goal.left_ok-requires
-left_ok-requires c = (small (start c.before.before.before.before), refl)
+left_ok-requires c = (found_small c.args.r c.args.a c.requires, refl)
 
 pub left_ok-requires-in-Double : goal.left_ok-requires-in-Double
-left_ok-requires-in-Double c = (small (start c.before.before.before.before.before), refl)
+left_ok-requires-in-Double c = (found_small c.args.r c.args.a c.requires, refl)
 
 pub growth_ok-requires-in_default : goal.growth_ok-requires-in_default
-growth_ok-requires-in_default c = limited (start c.before.before)
-
-axis_read : (c : After-struct_told-1) → let z = (start c.before.before).args.a.probing-1.axis in to_z w64 (of_z w64 z) ≡ z
-axis_read c = read (start c.before.before).args.a.probing-1.axis (search c.struct_told-1.given)
+growth_ok-requires-in_default c = limited c.args.r c.args.k c.args.a c.args.s c.requires
 
 pub left_ok-requires-in_default : goal.left_ok-requires-in_default
 left_ok-requires-in_default c =
-    let t = c.before.before in
-    let s = start t.before.before in
-    (small s, rw (axis_read t) (one_axis s.args.k s.args.a.probing-1 t.before.match.keys2 (numbers s)))
-
--- ---- the tests, of the records and the arguments
-calibrated : (c : After-calibrated_ok-calibrated)
-    → let s = c.before.before.before.before.args in c.calibrated_ok-calibrated.result ≡ calibrated_ok s.r.probe.status (zero_kind_of s.a) s.a.probing-1
-calibrated c = let s = c.before.before.before.before in c.calibrated_ok-calibrated.ensures
-    ∙ ap (λ k. calibrated_ok s.args.r.probe.status k s.args.a.probing-1) s.requires.kind
-
-pairs : (c : After-widths_ok-pairs) → let s = (start c).args in c.widths_ok-pairs.result ≡ pairs_ok (zero_kind_of s.a) s.a.probing-1 (zero_sizes s.r s.a)
-pairs c = let s = start c in c.widths_ok-pairs.ensures ∙ ap₂ (λ k z. pairs_ok k s.args.a.probing-1 z) s.requires.kind s.requires.sizes
-
-module _ (s : Start) where
-  abbrev kept : ℤ → Bool
-  kept n = within_twice_tsa s.args.a (zero_growth s.args.r s.args.a n)
-
-  abbrev inside : ℤ → Bool
-  inside n = offset_range (axis_left s.args.r s.args.a n)
-
-  kept_is : (n : ℤ) {b : Bool} → b ≡ within_twice_tsa s.args.a (growth s.args.k s.args.a.probing-1 s.args.s n) → b ≡ kept n
-  kept_is n e = e ∙ ap (within_twice_tsa s.args.a) (growth_found s.args.r s.args.a s.requires n)
-
-  inside_is : (n : ℤ) {b : Bool} → b ≡ offset_range (axis_of s.args.r.offset n +ℤ growth s.args.k s.args.a.probing-1 s.args.s n) → b ≡ inside n
-  inside_is n e = e ∙ ap (λ (g : ℤ). offset_range (axis_of s.args.r.offset n +ℤ g)) (growth_found s.args.r s.args.a s.requires n)
-
-  double : s.args.k.form ≡ Double → (zero_kind_of s.args.a).form ≡ Double
-  double e = sym (ap (λ k. k.form) s.requires.kind) ∙ e
-
-  single : One s.args.k.form → One (zero_kind_of s.args.a).form
-  single h = subst (λ k. One k.form) s.requires.kind h
+    let axis : to_z w64 (of_z w64 c.args.a.probing.axis) ≡ c.args.a.probing.axis = search rules in (
+      found_small c.args.r c.args.a c.requires,
+      rw axis (one_axis c.args.k c.args.a.probing c.in_default.not-Double (numbers c.args.r c.args.k c.args.a c.args.s c.requires)),
+    )
 
 pub returns-in-Double : goal.returns-in-Double
-unfolding zero_tests
 returns-in-Double c =
-    let l = c.before in
-    let g = l.before in
-    let e = g.before.before in
-    let w = e.before.before in
-    let s = start w in
-    let k = zero_kind_of s.args.a in
-    let f = double s e.enum_told-1.given.1 in
-    let tsa = ap₂ ◌&&◌ (kept_is s (pos 1) g.before.growth_ok.ensures) (kept_is s (pos 2) g.growth_ok-in-Double.ensures)
-    ∙ sym (every_two k s.args.a.probing-1 (kept s) f) in
-    let range = ap₂ ◌&&◌ (inside_is s (pos 1) l.left_ok.ensures) (inside_is s (pos 2) c.left_ok-in-Double.ensures)
-    ∙ sym (every_two k s.args.a.probing-1 (inside s) f) in
-    λ i. record { calibrated = calibrated w.before i; pairs = pairs w i; tsa = tsa i; tdif = true; range = range i }
+    two c.args.r c.args.k c.args.a c.args.s c.requires c.in-Double.is c.calibrated_ok-calibrated.ensures c.widths_ok-pairs.ensures
+    c.growth_ok.ensures c.growth_ok-in-Double.ensures c.left_ok.ensures c.left_ok-in-Double.ensures
 
 pub returns-in_default : goal.returns-in_default
-unfolding zero_tests
 returns-in_default c =
-    let g = c.before.before in
-    let t = g.before in
-    let w = t.before.before in
-    let s = start w in
-    let k = zero_kind_of s.args.a in
-    let f = single s t.before.match.keys2 in
-    let tsa = kept_is s s.args.a.probing-1.axis
-    (g.growth_ok-in_default.ensures ∙ ap (λ n. within_twice_tsa s.args.a (growth s.args.k s.args.a.probing-1 s.args.s n)) (axis_read t))
-    ∙ sym (every_one k s.args.a.probing-1 (kept s) f) in
-    let range = inside_is s s.args.a.probing-1.axis (rw (axis_read t) at c.left_ok-in_default.ensures) ∙ sym (every_one k s.args.a.probing-1 (inside s) f) in
-    λ i. record { calibrated = calibrated w.before i; pairs = pairs w i; tsa = tsa i; tdif = true; range = range i }
+    let axis : to_z w64 (of_z w64 c.args.a.probing.axis) ≡ c.args.a.probing.axis = search rules in
+    one c.args.r c.args.k c.args.a c.args.s c.requires c.in_default.not-Double c.calibrated_ok-calibrated.ensures c.widths_ok-pairs.ensures
+    (c.growth_ok-in_default.ensures ∙ ap (λ (n : ℤ). within_twice_tsa c.args.a (growth c.args.k c.args.a.probing c.args.s n)) axis)
+    (rw axis at c.left_ok-in_default.ensures)
