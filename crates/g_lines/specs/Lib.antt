@@ -2,4 +2,3 @@ pub mod Joined
 pub mod JoinedLaws
 pub mod TLine
 pub mod TLineLaws
-pub mod GLines

@@ -16,7 +16,7 @@ use Rattle.rules.specs.Stores.{probe_number, axis_number, direction_number, valu
 use Rattle.rules.specs.Refusals.{Rule, ◌unless◌, first, rising}
 use Rattle.rules.specs.RefusalLaws.{Numbered, test, test_passed, both_zero, all_of, rising_is}
 use Rattle.rules.specs.Settings.{empirical_rules, wear_rules, offset_rules}
-use Rattle.rules.specs.Calibration.{new_trigger, change, calibration_numbers, calibration_positions, calibration_limits, calibration_arguments, calibration_arguments_with, calibration_records, calibration_rules, calibration_rules_with}
+use Rattle.rules.specs.Calibration.{new_trigger, change, calibration_numbers, calibration_positions, calibration_limits, calibration_arguments, calibration_arguments_with, calibration_records, calibration_rules}
 use Rattle.rules.specs.Kinds.{tool_kind_number, zero_kind_number}
 use Rattle.rules.specs.Sizes.{numbers_ok, positions_ok}
 use Rattle.rules.specs.Measuring.{room, record_rules}
@@ -89,16 +89,10 @@ calibration_passed stored a e =
     record { arguments = calibration_arguments_lem a (by 2) (by 3); tsa = by 7; trigger = by 9 }
 
 -- where a float was given, it is good: the rules are those with whole positions
-floats_good : (numbers good : Bool) (rs : List Rule) → first (2 unless numbers ∷ 13 unless good ∷ rs) ≡ 0 → first (2 unless numbers ∷ rs) ≡ 0
+pub floats_good : (numbers good : Bool) (rs : List Rule) → first (2 unless numbers ∷ 13 unless good ∷ rs) ≡ 0 → first (2 unless numbers ∷ rs) ≡ 0
 floats_good numbers true rs e = e
 floats_good true false rs e = absurd (omega (arith, e))
 floats_good false false rs e = absurd (omega (arith, e))
-
-pub calibration_call_passed : (good : Bool) (stored : ℤ) (a : Calibration) → first (calibration_rules_with good stored a) ≡ 0 → CalibrationPassed stored a
-unfolding calibration_arguments_with
-calibration_call_passed good stored a e =
-    calibration_passed stored a
-    (floats_good (calibration_numbers a) good (3 unless (calibration_positions a && calibration_limits a) ∷ calibration_records stored a) e)
 
 -- ---- a measurement: the rules of its records
 pub record TestsPassed (t : Tests) : Type 0 where

@@ -1,14 +1,12 @@
 -- What is known of the units of a float, the readings that a kind uses, and bit patterns at the edges of request 2026-01.
-use Rattle.std.specs.Prelude.{◌≡◌, refl, Bool, true, false, cond, ◌&&◌, List, [], ◌∷◌, ℕ, suc, ◌+◌, ◌-◌, ◌*◌, ◌≤◌, ◌<◌, eqb, Float, ℤ, pos, nat_abs, ◌-ℤ◌, ◌*ℤ◌}
-use Rattle.std.proofs.Common.{◌∙◌, arith, div-add-mod', mod-lt, div-lt_iff_lt-mul, leb-true}
+use Rattle.std.specs.Prelude.{◌≡◌, refl, Bool, true, false, cond, ◌&&◌, List, [], ◌∷◌, ℕ, ◌+◌, ◌*◌, ◌≤◌, eqb, Float, ℤ, pos, nat_abs}
+use Rattle.std.proofs.Common.{◌∙◌, arith, div-lt_iff_lt-mul, leb-true}
 use Rattle.std.specs.Float.{nan, inf, fin, binary32}
 use Rattle.std.specs.Float.Ieee.{up, down, of_bits}
 use Rattle.std.specs.Float.Ieee.Fits.{down_pos}
 use Rattle.signed.specs.Ranges.{minus}
-use Rattle.signed.specs.Differences.{ints, neg_at}
 use Rattle.signed.specs.Magnitudes.{abs_neg}
 use Rattle.signed.specs.Rounding.{halves_up}
-use Rattle.signed.specs.RoundingLaws.{halves_up_lem}
 use Rattle.signed.specs.RangeLaws.{true_T}
 use Rattle.lists.specs.Each.{Each, every}
 use Rattle.package.specs.declared.arguments.Reading.{Reading}
@@ -21,38 +19,11 @@ use Rattle.package.specs.declared.found.Kind.{Kind}
 use Rattle.rules.specs.Stores.{pick}
 use Rattle.rules.specs.Kinds.{kind}
 use Rattle.rules.specs.Sizes.{Touch, touches, raw_at}
-use Rattle.rules.specs.Readings.{good_float, signed, units_rounding, units_of, good_if, position_if, readings_ok, raws_of}
+use Rattle.rules.specs.Readings.{good_float, signed, units_of, good_if, position_if, readings_ok, raws_of}
 
--- ---- the units are the whole number nearest to 10,000·x, the one farther from zero of two: with x = ±m·up e / down e, multiplied out
-distance : (s : Bool) (n k q : ℕ) → nat_abs (signed s n -ℤ pos k *ℤ signed s q) ≡ (n - k * q) + (k * q - n)
-distance false n k q = simp ints (omega arith)
-distance true n k q = rw (neg_at n, neg_at q) (simp ints (omega arith))
-
-size_signed : (s : Bool) (n : ℕ) → nat_abs (signed s n) ≡ n
+pub size_signed : (s : Bool) (n : ℕ) → nat_abs (signed s n) ≡ n
 size_signed false n = refl
 size_signed true n = abs_neg (pos n)
-
-away : (n k : ℕ) → 1 ≤ k → 2 * n < 2 * (k * units_rounding n k) + k
-unfolding halves_up
-away n k h = omega (arith, div-add-mod' (2 * n + k) (2 * k), mod-lt (2 * n + k) {m = 2 * k} (omega arith))
-
-module _ (s : Bool) (m : ℕ) (e : ℤ) where
-  abbrev exact : ℤ
-  exact = signed s (10000 * (m * up e))
-
-  pub units_nearest : 2 * nat_abs (exact -ℤ pos (down e) *ℤ units_of (fin s m e)) ≤ down e
-  unfolding units_of
-  units_nearest =
-      let n = 10000 * (m * up e) in
-      rw (distance s n (down e) (units_rounding n (down e))) (omega (arith, halves_up_lem n (down e) (down_pos e)))
-
-  pub units_away : 2 * nat_abs (exact -ℤ pos (down e) *ℤ units_of (fin s m e)) ≡ down e → 10000 * (m * up e) ≤ down e * nat_abs (units_of (fin s m e))
-  unfolding units_of
-  units_away h =
-      let n = 10000 * (m * up e) in
-      let d : 2 * ((n - down e * units_rounding n (down e)) + (down e * units_rounding n (down e) - n)) ≡ down e =
-      rw (distance s n (down e) (units_rounding n (down e))) at h in
-      rw (size_signed s (units_rounding n (down e))) (omega (arith, d, away n (down e) (down_pos e)))
 
 -- ---- the position of a good float is in range, so 3 refuses none
 small : (a b : ℕ) → a ≤ 1000 * b → 1 ≤ b → halves_up (10000 * a) b ≤ 10000000

@@ -1,5 +1,5 @@
 -- Request 2026-01: "A reading is now either a whole position or such a float report, and the measured axis picks its number".
-use Rattle.std.specs.Prelude.{Bool, true, false, cond, ◌&&◌, List, [], ◌∷◌, ℕ, ◌*◌, leb, Float, ℤ, pos}
+use Rattle.std.specs.Prelude.{Bool, true, false, cond, ◌&&◌, [], ◌∷◌, ℕ, ◌*◌, leb, Float, ℤ, pos}
 use Rattle.std.specs.Float.{nan, inf, fin}
 use Rattle.std.specs.Float.Ieee.{up, down}
 use Rattle.signed.specs.Ranges.{minus}

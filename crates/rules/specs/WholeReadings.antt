@@ -9,8 +9,7 @@ use Rattle.package.specs.declared.arguments.CalibrationReading.{CalibrationReadi
 use Rattle.package.specs.declared.arguments.Raws.{Raws}
 use Rattle.package.specs.declared.arguments.ToolReadings.{ToolReadings}
 use Rattle.package.specs.declared.arguments.ZeroReadings.{ZeroReadings}
-use Rattle.package.specs.declared.found.Evaluation.{Evaluation}
-use Rattle.rules.specs.Refusals.{Rule, first}
+use Rattle.rules.specs.Refusals.{first}
 use Rattle.rules.specs.Stores.{Package, probes, at}
 use Rattle.rules.specs.Calibration.{calibration_numbers, calibration_positions, calibration_limits, calibration_arguments, calibration_arguments_with, calibration_rules_with, trigger_for, calibration_with, calibration_at, good_calibration}
 use Rattle.rules.specs.Sizes.{positions_ok}
@@ -19,7 +18,7 @@ use Rattle.rules.specs.Measuring.{room}
 use Rattle.rules.specs.Tool.{tool_numbers, tool_positions, limits_ok, tool_arguments, tool_arguments_with, tool_rules_with, tool_with, tool_at, good_tool, whole_tool}
 use Rattle.rules.specs.Zero.{zero_kind_of, zero_numbers, zero_arguments, zero_arguments_with, zero_rules_with, zero_with, zero_at, good_zero, whole_zero}
 use Rattle.rules.specs.Results.{evaluated_by, tool_results, zero_results}
-use Rattle.rules.specs.Changes.{Change, Reckoned, made_all}
+use Rattle.rules.specs.Changes.{Change, made_all}
 use Rattle.rules.specs.Calls.{Call, calibrate_reading, measure_tool_readings, measure_zero_readings, calibrate, measure_tool, measure_zero, meaning, tool_read, zero_read, rules, changes, reckoned, done, refusal, step, evaluation}
 use Rattle.rules.specs.Answers.{array_after, tool_array, zero_array}
 

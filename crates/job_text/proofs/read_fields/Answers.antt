@@ -12,7 +12,7 @@ use Rattle.text.specs.Numbers.{Number}
 use Rattle.job_text.specs.Letters.{form_of}
 use Rattle.job_text.specs.Lines.{numbers_of}
 use Rattle.job_text.specs.Fields.{few}
-use Rattle.job_text.specs.FieldLaws.{front, front_more, full, stays_within, one_more, ended_by_lem, not_read}
+use Rattle.job_text.proofs.FieldLaws.{front, front_more, full, stays_within, one_more, ended_by_lem, not_read}
 use Rattle.job_text.proofs.read_fields.Goals as goal
 
 -- what is read of the part from a place on is read of the text there

@@ -2,7 +2,7 @@ use Rattle.std.proofs.Common.{◌≡◌, ℕ, ◌-◌, ◌≤◌, List, length, 
 use Rattle.text.specs.Pieces.{cut, comma, line}
 use Rattle.job_text.specs.Letters.{most_fields, form_of}
 use Rattle.job_text.specs.Lines.{Numbers, numbers_of}
-use Rattle.job_text.specs.FieldLaws.{front}
+use Rattle.job_text.proofs.FieldLaws.{front}
 use Rattle.job_text.proofs.read_fields.Given as goal
 
 -- the numbers of the fields of a line from field n on, which stands at a place

@@ -6,7 +6,8 @@ use Rattle.text.specs.PieceLaws.{up_drop}
 use Rattle.job_text.specs.Letters.{most_fields, form_of}
 use Rattle.job_text.specs.Lines.{Numbers, numbers_of, said_behind, said_by}
 use Rattle.job_text.specs.Fields.{field_numbers, numbers_in, Ends}
-use Rattle.job_text.specs.LineLaws.{empty_line, other_byte, too_long, one_byte, two_bytes, fields_say, fitting, unfitting, wrong_line, says_nothing}
+use Rattle.job_text.specs.LineLaws.{empty_line, other_byte, too_long, one_byte, two_bytes, fields_say, unfitting, wrong_line, says_nothing}
+use Rattle.job_text.proofs.LineLaws.{fitting}
 use Rattle.job_text.specs.declared.Fields.{Fields}
 use Rattle.job_text.specs.declared.Fields.TheVariants.{Read, Wrong}
 use Rattle.job_text.proofs.read_line.Goals as goal

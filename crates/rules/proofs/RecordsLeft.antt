@@ -15,7 +15,8 @@ use Rattle.rules.specs.BlockLaws.{Bytes}
 use Rattle.rules.specs.Calls.{Call, meaning, refusal, changes, step}
 use Rattle.rules.specs.ReadsOnly.{same_refusal, same_changes}
 use Rattle.rules.specs.ChangesOnly.{one_keeps}
-use Rattle.rules.specs.InRange.{typed, PackageKnown, Fits, AllFit, made_known, fits}
+use Rattle.rules.specs.InRange.{typed, PackageKnown, Fits, AllFit, made_known}
+use Rattle.rules.proofs.InRange.{fits}
 
 -- ---- a record that is written
 put_same : {A : Type 0} (d : A) (xs ys : List A) (n : ℤ) (x : A) → length xs ≡ length ys → pick d (put xs n x) n ≡ pick d (put ys n x) n

@@ -1,0 +1,9 @@
+pub mod BlockLaws
+pub mod InRange
+pub mod BlockTheorems
+pub mod RecordsLeft
+pub mod ChangesOnly
+pub mod ProbeLaws
+pub mod ArgumentRanges
+pub mod Passed
+pub mod ReadingLaws
