@@ -32,25 +32,27 @@ progress() { # text
     fi
 }
 
-# Runs a step of a build. Its output goes to the log, and its end to standard error if it fails.
-step() { # command ..
-    local log=$root/target/build.log
-    (cd "$root" && "$@") </dev/null >"$log" 2>&1 && return
+# What is left of a build that failed: the end of its log, without the crates that are well.
+tell_failure() { # log
     progress ""
-    tail -n 20 "$log" >&2
-    echo "the build failed; $log has all of it" >&2
+    grep -v ': ok$' "$1" | tail -n 20 >&2
+    echo "the build failed; $1 has all of it" >&2
+}
+
+# Runs a step of a build in a folder of the repository. Its output goes to the log, and its end to standard error if it fails.
+step() { # folder, command ..
+    local folder=$1 log=$root/target/build.log
+    shift
+    (cd "$root/$folder" && "$@") </dev/null >"$log" 2>&1 && return
+    tell_failure "$log"
     return 1
 }
 
-# A line for each level of the crates that a crate rests on: those that need only levels before. The crate itself is the last.
-levels() { # crate
+# The crates that a crate rests on, and the crate itself.
+below() { # crate
     awk -v wanted="$1" '
         /^#/ || !sub(/:/, "") { next }
         { name[++count] = $1; needs[$1] = $0 }
-        {
-            for (i = 2; i <= NF; i++) if (level[$i] > level[$1]) level[$1] = level[$i]
-            level[$1]++
-        }
         END {
             used[wanted] = 1
             for (n = count; n > 0; n--) {
@@ -58,28 +60,36 @@ levels() { # crate
                 size = split(needs[name[n]], parts, " ")
                 for (i = 2; i <= size; i++) used[parts[i]] = 1
             }
-            for (n = 1; n <= count; n++) if (name[n] in used) line[level[name[n]]] = line[level[name[n]]] " " name[n]
-            for (l = 1; l <= level[wanted]; l++) print line[l]
+            for (n = 1; n <= count; n++) if (name[n] in used) print name[n]
         }' "$root/crates.txt"
 }
 
-# Proves what a crate rests on, level by level, and then the crate itself by the command given.
-prove() { # crate, command ..
-    local crate=$1 line names done=0 count which
-    shift
-    count=$(levels "$crate" | wc -w)
-    while read -ra names; do
-        which=$((done + 1))
-        [ ${#names[@]} -eq 1 ] || which="$which to $((done + ${#names[@]}))"
-        line=${names[*]}
-        progress "proving $which of $count: ${line// /, }"
-        done=$((done + ${#names[@]}))
-        if [ "$done" -lt "$count" ]; then
-            step rt check "${names[@]}" || return 1
-        else
-            step "$@" || return 1
-        fi
-    done < <(levels "$crate")
+# How many crates are checked side by side: one for each processor, as far as each has 3 GB of memory.
+side_by_side() {
+    local processors fits
+    processors=$(nproc 2>/dev/null || echo 1)
+    fits=$(awk '/^MemAvailable:/ { print int($2 / 3000000) }' /proc/meminfo 2>/dev/null)
+    [ "${fits:-1}" -ge "$processors" ] || processors=${fits:-1}
+    [ "$processors" -ge 1 ] || processors=1
+    echo "$processors"
+}
+
+# Proves a crate and those that it rests on, and shows each that is done.
+prove() { # crate
+    local crate=$1 log=$root/target/build.log line checked=0 count
+    count=$(below "$crate" | wc -l)
+    progress "proving $count crates"
+    (cd "$root/crates/$crate" && rt all check --jobs "$(side_by_side)") </dev/null 2>&1 | tee "$log" |
+        while IFS= read -r line; do
+            case $line in
+            '== summary') ;;
+            '== '*) checked=$((checked + 1)) && progress "$checked of $count checked: ${line#== }" ;;
+            esac
+        done
+    if [ "${PIPESTATUS[0]}" -ne 0 ]; then
+        tell_failure "$log"
+        return 1
+    fi
     progress ""
 }
 
@@ -87,7 +97,8 @@ prove() { # crate, command ..
 stale() { # product, source ..
     local product=$1
     shift
-    [ ! -f "$product" ] || [ ! -f "$product.built" ] || [ -n "$(find "$@" -name target -prune -o -type f -newer "$product.built" -print -quit)" ]
+    [ -f "$product" ] && [ -f "$product.built" ] || return 0
+    [ -n "$(find "$@" \( -name target -o -name out \) -prune -o -type f -newer "$product.built" -print -quit)" ]
 }
 
 # Makes a product by a command where it is stale.
@@ -101,13 +112,17 @@ make_product() { # product, sources as words, command ..
     "$@" && mv "$product.begun" "$product.built"
 }
 
-prove_program() { present rt && prove measure rt check measure; }
-prove_library() { present rt && prove boundary rt staticlib boundary; }
+# Where rt leaves the job program, by rt run and by rt ci.
+take_program() { mkdir -p "$(dirname "$job_program")" && cp "$root/crates/measure/out/measure" "$job_program"; }
+take_library() { cp "$root/crates/boundary_c/out/libboundary_c.a" "$library"; }
+
+prove_program() { present rt && prove measure && step crates/measure rt run -- data/job.txt && take_program; }
+prove_library() { present rt && prove boundary_c && step crates/boundary_c rt lib && take_library; }
 
 compile_command() {
     present cargo cc && build_library || return 1
     progress "compiling the command"
-    step cargo build --quiet --release --manifest-path rust/Cargo.toml --package command || return 1
+    step . cargo build --quiet --release --manifest-path rust/Cargo.toml --package command || return 1
     progress ""
 }
 

@@ -1,6 +1,6 @@
 /*
  * A groove of 20 mm measured with tool offset: calibrates probe 1, measures three parts, saves the memory block between them and loads it again.
- * Build, from the root of the repository, after `rt staticlib boundary`:
+ * Build, from the root of the repository, after `tests/library`:
  *   cc -std=c99 -Iinclude examples/c/groove.c target/staticlib/libboundary.a -o target/groove
  */
 #include <inttypes.h>

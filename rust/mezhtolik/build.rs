@@ -19,7 +19,7 @@ fn main() {
     println!("cargo::rerun-if-changed={}", library.display());
     if !library.is_file() {
         let folder = folder.display();
-        println!("cargo::error={LIBRARY} is not in {folder}: run `rt staticlib boundary` at the root of the repository, or set MEZHTOLIK_LIB_DIR to its folder");
+        println!("cargo::error={LIBRARY} is not in {folder}: run `tests/library` at the root of the repository, or set MEZHTOLIK_LIB_DIR to its folder");
         return;
     }
     println!("cargo::rustc-link-search=native={}", folder.display());

@@ -1,4 +1,4 @@
-// The calls for C: each hands on to the call in place, on the area that the caller lends.
+// The calls of the package: each hands on to the call in place, on the area that the caller lends.
 #![tactic(auto)]
 
 ghost use Rattle.std.specs.Prelude.{◌≡◌};
@@ -27,46 +27,35 @@ use wear_setting::set_wear;
 use zero_setting::set_offset;
 
 // Writes the fresh package, every record 0.
-#[unsafe(no_mangle)]
-pub extern "C" fn mezhtolik_fresh(area: &mut [i32]) -> u32
+pub fn mezhtolik_fresh(area: &mut [i32]) -> u32
     ensures { unmeasured result area.new ≡ fresh_called area.old }
 {
     fresh(area)
 }
 
 // Replaces one empirical value.
-#[unsafe(no_mangle)]
-pub extern "C" fn mezhtolik_set_empirical(area: &mut [i32], ev: i64, value: i64) -> u32
+pub fn mezhtolik_set_empirical(area: &mut [i32], ev: i64, value: i64) -> u32
     ensures { unmeasured result area.new ≡ called area.old (set_empirical ev value) }
 {
     set_empirical(area, ev, value)
 }
 
 // Replaces one tool's two wears.
-#[unsafe(no_mangle)]
-pub extern "C" fn mezhtolik_set_wear(area: &mut [i32], tool: i64, radius: i64, length: i64) -> u32
+pub fn mezhtolik_set_wear(area: &mut [i32], tool: i64, radius: i64, length: i64) -> u32
     ensures { unmeasured result area.new ≡ called area.old (set_wear tool radius length) }
 {
     set_wear(area, tool, radius, length)
 }
 
 // Replaces one zero offset on its three axes.
-#[unsafe(no_mangle)]
-pub extern "C" fn mezhtolik_set_offset(
-    area: &mut [i32],
-    offset: i64,
-    v1: i64,
-    v2: i64,
-    v3: i64,
-) -> u32
+pub fn mezhtolik_set_offset(area: &mut [i32], offset: i64, v1: i64, v2: i64, v3: i64) -> u32
     ensures { unmeasured result area.new ≡ called area.old (set_offset offset v1 v2 v3) }
 {
     set_offset(area, offset, v1, v2, v3)
 }
 
 // Calibrates one direction of a probe.
-#[unsafe(no_mangle)]
-pub extern "C" fn mezhtolik_calibrate(
+pub fn mezhtolik_calibrate(
     area: &mut [i32],
     probe: i64,
     axis: i64,
@@ -82,8 +71,7 @@ pub extern "C" fn mezhtolik_calibrate(
 }
 
 // Calibrates one direction of a probe by a report.
-#[unsafe(no_mangle)]
-pub extern "C" fn mezhtolik_calibrate_report(
+pub fn mezhtolik_calibrate_report(
     area: &mut [i32],
     probe: i64,
     axis: i64,
@@ -103,16 +91,14 @@ pub extern "C" fn mezhtolik_calibrate_report(
 }
 
 // The bits of a probe's status and the number of directions calibrated.
-#[unsafe(no_mangle)]
-pub extern "C" fn mezhtolik_probe_status(area: &[i32], probe: i64) -> Status
+pub fn mezhtolik_probe_status(area: &[i32], probe: i64) -> Status
     ensures { result ≡ status_called area.now probe }
 {
     probe_status(area, probe)
 }
 
 // Measures with tool offset by 21 numbers and writes the 42 numbers that begin at place.
-#[unsafe(no_mangle)]
-pub extern "C" fn mezhtolik_measure_tool(
+pub fn mezhtolik_measure_tool(
     area: &mut [i32],
     numbers: &[i64],
     results: &mut [i32],
@@ -124,8 +110,7 @@ pub extern "C" fn mezhtolik_measure_tool(
 }
 
 // Measures with zero offset by 13 numbers and writes the 42 numbers that begin at place.
-#[unsafe(no_mangle)]
-pub extern "C" fn mezhtolik_measure_zero(
+pub fn mezhtolik_measure_zero(
     area: &mut [i32],
     numbers: &[i64],
     results: &mut [i32],
@@ -137,8 +122,7 @@ pub extern "C" fn mezhtolik_measure_zero(
 }
 
 // Measures with tool offset by 21 numbers and 12 floats, the raws that `reported` marks by their reports, and writes the 42 numbers that begin at place.
-#[unsafe(no_mangle)]
-pub extern "C" fn mezhtolik_measure_tool_readings(
+pub fn mezhtolik_measure_tool_readings(
     area: &mut [i32],
     numbers: &[i64],
     floats: &[f32],
@@ -153,8 +137,7 @@ pub extern "C" fn mezhtolik_measure_tool_readings(
 }
 
 // Measures with zero offset by 13 numbers and 12 floats, the raws that `reported` marks by their reports, and writes the 42 numbers that begin at place.
-#[unsafe(no_mangle)]
-pub extern "C" fn mezhtolik_measure_zero_readings(
+pub fn mezhtolik_measure_zero_readings(
     area: &mut [i32],
     numbers: &[i64],
     floats: &[f32],
@@ -169,24 +152,21 @@ pub extern "C" fn mezhtolik_measure_zero_readings(
 }
 
 // Replaces all empirical and mean values by those of a block of 80 bytes.
-#[unsafe(no_mangle)]
-pub extern "C" fn mezhtolik_load(area: &mut [i32], bytes: &[u8]) -> u32
+pub fn mezhtolik_load(area: &mut [i32], bytes: &[u8]) -> u32
     ensures { unmeasured result area.new ≡ called area.old (load bytes.now) }
 {
     load(area, bytes)
 }
 
 // Writes the block of all empirical and mean values to the first 80 bytes of the buffer.
-#[unsafe(no_mangle)]
-pub extern "C" fn mezhtolik_save(area: &[i32], buffer: &mut [u8]) -> u32
+pub fn mezhtolik_save(area: &[i32], buffer: &mut [u8]) -> u32
     ensures { saved_as result buffer.new ≡ save_called area.now buffer.old }
 {
     save(area, buffer)
 }
 
 // Runs a job and writes the answers of its lines to the front of the output.
-#[unsafe(no_mangle)]
-pub extern "C" fn mezhtolik_run_job(area: &mut [i32], job: &[u8], output: &mut [u8]) -> Ran
+pub fn mezhtolik_run_job(area: &mut [i32], job: &[u8], output: &mut [u8]) -> Ran
     ensures { job_left result.refusal result.length area.new output.new
         ≡ job_called area.old job.now output.old }
 {

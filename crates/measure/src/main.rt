@@ -1,12 +1,18 @@
 // The job program: runs a job on a fresh package and prints the answers of its lines. Document 01, 'Job files'.
 #![tactic(auto)]
 
+ghost use Rattle.std.specs.Prelude.{◌≤◌, length, IfOk};
+
 use area::AREA;
 use fresh_area::fresh;
 use job_limits::{JOB_LIMIT, LINE_ROOM, LINES_LIMIT};
 use jobs::run_job;
-use libc::STDOUT_FILENO;
 use package::refusals::DONE;
+use std::env::{Env, FillError};
+use std::fs::File;
+use std::io::{ErrorKind, Read};
+use std::rt::Files;
+use std::{io, str};
 
 // One byte more than a job may have, so that a longer one is seen.
 const READ: usize = JOB_LIMIT + 1;
@@ -14,62 +20,82 @@ const READ: usize = JOB_LIMIT + 1;
 // As much as any job may need: refusal 1 cannot occur.
 const ROOM: usize = LINE_ROOM * LINES_LIMIT;
 
-fn print_answers(job: &[u8], path: &[u8]) {
+// The most bytes of a name.
+const NAME: usize = 4_096;
+
+fn print_answers(rt: &impl Print, errors: &impl Print, job: &[u8], path: &[u8]) -> io::Result<()> {
     let mut area = [0i32; AREA];
     fresh(&mut area);
     let mut output = [0u8; ROOM];
     let ran = run_job(&mut area, job, &mut output);
     if ran.refusal != DONE {
-        job_report::refused(ran.refusal, job, path);
-        return;
+        return job_report::refused(errors, ran.refusal, job, path);
     }
     let length = ran.length;
-    if !io::write_all(STDOUT_FILENO, &output[..length]) {
-        job_report::unwritten(path);
+    if rt.write_all(&output[..length]).is_err() {
+        return job_report::unwritten(errors, path);
     }
+    Ok(())
 }
 
-fn run_open(fd: i32, path: &[u8]) {
+// Reads until the buffer is full or the input ends, and answers how many bytes it read.
+fn read_full(input: &mut impl Read, buffer: &mut [u8]) -> io::Result<usize>
+    ensures { IfOk result (λ n. n ≤ length buffer.new) }
+{
+    let mut done: usize = 0;
+    while done < buffer.len() {
+        let size = input.read(&mut buffer[done..])?;
+        if size == 0 {
+            break;
+        }
+        done += size;
+    }
+    Ok(done)
+}
+
+fn run_open(
+    rt: &impl Print,
+    errors: &impl Print,
+    input: &mut impl Read,
+    path: &[u8],
+) -> io::Result<()> {
     let mut job = [0u8; READ];
-    let size = io::read_full(fd, &mut job);
-    let mut next = [0u8; 1];
-    // read_full stops at the end and at an error alike; one read more tells which it was
-    if libc::read(fd, &mut next) < 0 {
-        job_report::unreadable(path);
-        return;
+    match read_full(input, &mut job) {
+        Ok(size) => print_answers(rt, errors, &job[..size], path),
+        Err(e) => job_report::unreadable(errors, e.kind(), path),
     }
-    print_answers(&job[..size], path);
 }
 
-fn run_file(path: &[u8]) {
-    let fd = os::open_read(path);
-    if fd < 0 {
-        job_report::unreadable(path);
-        return;
+// A name that is no text is that of no file.
+fn run_file(rt: &(impl Files + Print), errors: &impl Print, path: &[u8]) -> io::Result<()> {
+    let opened = match str::from_utf8(path) {
+        Ok(name) => File::open(rt, name),
+        Err(_) => Err(io::Error::from(ErrorKind::InvalidFilename)),
+    };
+    match opened {
+        Ok(mut file) => run_open(rt, errors, &mut file, path),
+        Err(e) => job_report::unreadable(errors, e.kind(), path),
     }
-    run_open(fd, path);
-    libc::close(fd);
 }
 
-fn main() {
-    let arguments = os::arg_count();
-    if arguments < 2 {
-        run_file(b"job.txt");
-        return;
+// Whether an argument is there.
+fn is_given(rt: &impl Env, i: usize) -> bool {
+    match rt.arg(i, &mut []) {
+        Err(FillError::NotPresent) => false,
+        _ => true,
     }
-    if 2 < arguments {
-        job_report::wrong_arguments();
-        return;
+}
+
+fn main(rt: HostRuntime) -> io::Result<()> {
+    let errors = rt.stderr();
+    if is_given(&rt, 2) {
+        return job_report::wrong_arguments(&errors);
     }
-    let mut path = io::buffer();
-    let length = os::arg(1, &mut path);
-    if os::errno() != 0 {
-        job_report::long_name();
-        return;
+    let mut path = [0u8; NAME];
+    match rt.arg(1, &mut path) {
+        Err(FillError::NotPresent) => run_file(&rt, &errors, b"job.txt"),
+        Err(FillError::TooLong) => job_report::long_name(&errors),
+        Ok(0) => job_report::no_name(&errors),
+        Ok(length) => run_file(&rt, &errors, &path[..length]),
     }
-    if length == 0 {
-        job_report::no_name();
-        return;
-    }
-    run_file(&path[..length]);
 }

@@ -31,91 +31,108 @@ mod reports;
 mod run;
 
 use area::AREA;
-use bytes::scan::find;
 use print::text;
 use run::{ANSWER, REFUSAL, SILENT, WHOLE};
+use std::fs::File;
+use std::io;
+use std::rt::Files;
 
 // What each number of an area is before the first row.
 const UNSET: i32 = 7;
 
-fn main() {
-    file(b"setup.txt");
-    file(b"measuring.txt");
-    file(b"series.txt");
-    file(b"limits.txt");
-    file(b"further.txt");
-    file(b"reports.txt");
+// The most bytes of a file, and one more, so that a longer one is seen.
+const MOST_READ: usize = 65_536;
+
+fn main(rt: HostRuntime) -> io::Result<()> {
+    file(&rt, "setup.txt")?;
+    file(&rt, "measuring.txt")?;
+    file(&rt, "series.txt")?;
+    file(&rt, "limits.txt")?;
+    file(&rt, "further.txt")?;
+    file(&rt, "reports.txt")
 }
 
-fn file(path: &[u8]) {
-    let mut buffer = io::large_buffer();
-    let fd = os::open_read(path);
-    let size = io::read_full(fd, &mut buffer);
-    libc::close(fd);
+fn file(rt: &(impl Files + Print), path: &str) -> io::Result<()> {
+    let mut buffer = [0u8; MOST_READ];
+    let size = match File::open(rt, path) {
+        Ok(mut input) => read::read_full(&mut input, &mut buffer)?,
+        Err(_) => 0,
+    };
     let mut area = [UNSET; AREA];
-    rows(&mut area, &buffer[..size]);
+    rows(rt, &mut area, &buffer[..size])?;
     // not there, or longer than the buffer
     if (size == 0) | (size == buffer.len()) {
-        text(path);
-        text(b": ?\n");
+        text(rt, path.as_bytes())?;
+        text(rt, b": ?\n")?;
     }
+    Ok(())
 }
 
-fn rows(area: &mut [i32], s: &[u8]) {
-    let mut at: usize = 0;
-    while at < s.len() {
-        let end = find(s, at, s.len(), b'\n');
-        row(area, &s[at..end]);
-        if end == s.len() {
-            return;
-        }
-        at = end + 1;
+fn rows(rt: &impl Print, area: &mut [i32], s: &[u8]) -> io::Result<()> {
+    for line in s.split(|b| *b == b'\n') {
+        row(rt, area, line)?;
     }
+    Ok(())
 }
 
-fn row(area: &mut [i32], s: &[u8]) {
+fn row(rt: &impl Print, area: &mut [i32], s: &[u8]) -> io::Result<()> {
     if s.len() == 0 {
-        return;
+        return Ok(());
     }
     let mark = s[0];
     match mark {
-        b'#' => {}
-        b'"' => words(read::behind(s, 0)),
-        ANSWER | REFUSAL | SILENT => line(area, mark, read::behind(s, 0)),
-        _ => line(area, WHOLE, s),
+        b'#' => Ok(()),
+        b'"' => words(rt, read::behind(s, 0)),
+        ANSWER | REFUSAL | SILENT => line(rt, area, mark, read::behind(s, 0)),
+        _ => line(rt, area, WHOLE, s),
     }
 }
 
-fn words(s: &[u8]) {
+fn words(rt: &impl Print, s: &[u8]) -> io::Result<()> {
     if s.len() == 0 {
-        text(b"\n");
+        text(rt, b"\n")
     } else {
-        text(s);
+        text(rt, s)
     }
 }
 
-fn line(area: &mut [i32], mark: u8, s: &[u8]) {
+fn line(rt: &impl Print, area: &mut [i32], mark: u8, s: &[u8]) -> io::Result<()> {
     let title = read::up_to(s, b'|');
     let rest = read::behind(s, title.len());
     if rest.len() == 0 {
-        return call(area, mark, title, title, rest);
+        return call(rt, area, mark, title, title, rest);
     }
     let given = read::up_to(rest, b'|');
-    call(area, mark, title, given, read::behind(rest, given.len()));
+    call(
+        rt,
+        area,
+        mark,
+        title,
+        given,
+        read::behind(rest, given.len()),
+    )
 }
 
-fn call(area: &mut [i32], mark: u8, title: &[u8], given: &[u8], tail: &[u8]) {
+fn call(
+    rt: &impl Print,
+    area: &mut [i32],
+    mark: u8,
+    title: &[u8],
+    given: &[u8],
+    tail: &[u8],
+) -> io::Result<()> {
     let word = read::up_to(given, b',');
     let f = read::read_fields(read::behind(given, word.len()));
-    around(mark, title, b":");
-    run::run(area, mark, title, word, f);
-    around(mark, tail, b"\n");
+    around(rt, mark, title, b":")?;
+    run::run(rt, area, mark, title, word, f)?;
+    around(rt, mark, tail, b"\n")
 }
 
 // Text around what a row shows.
-fn around(mark: u8, s: &[u8], end: &[u8]) {
+fn around(rt: &impl Print, mark: u8, s: &[u8], end: &[u8]) -> io::Result<()> {
     if (mark == WHOLE) | (mark == ANSWER) {
-        text(s);
-        text(end);
+        text(rt, s)?;
+        text(rt, end)?;
     }
+    Ok(())
 }

@@ -1,6 +1,6 @@
 // Rows that measure.
 use crate::print::{Style, named, part, record, text};
-use crate::read::Fields;
+use crate::read::{Fields, same};
 use crate::reports::{Reports, reports_of};
 use crate::run::answered;
 use crate::{print, read};
@@ -9,9 +9,9 @@ use boundary::{
     mezhtolik_measure_tool, mezhtolik_measure_tool_readings, mezhtolik_measure_zero,
     mezhtolik_measure_zero_readings,
 };
-use check::same;
 use layout::write_numbers;
 use measuring::Decided;
+use std::io;
 
 // The places of a result array, those of the manual's first array, and the greatest length of an array here.
 const RESULTS: usize = 42;
@@ -35,22 +35,37 @@ const RECORD: usize = 11;
 const MV: usize = 13;
 
 // The length of the array that is lent, and the place in it.
-#[derive(Drop)]
+#[derive(Clone, Copy)]
 struct Room {
     length: usize,
     place: usize,
 }
 
 // Measures with tool or with zero offset, and shows what was left as the title's word asks.
-pub fn measured(area: &mut [i32], mark: u8, title: &[u8], tool: bool, f: Fields) {
+pub fn measured(
+    rt: &impl Print,
+    area: &mut [i32],
+    mark: u8,
+    title: &[u8],
+    tool: bool,
+    f: Fields,
+) -> io::Result<()> {
     let mut results = counted();
     let room = room_of(title);
     let d = lent(area, title, tool, f, &mut results, room);
-    if answered(mark, d.refusal) {
-        print::answer(d.branch);
-        print::answer(d.verdict);
-        left(&area[..], title, tool, f, part(&results, 0, room.length));
+    if answered(rt, mark, d.refusal)? {
+        print::answer(rt, d.branch)?;
+        print::answer(rt, d.verdict)?;
+        left(
+            rt,
+            &area[..],
+            title,
+            tool,
+            f,
+            part(&results, 0, room.length),
+        )?;
     }
+    Ok(())
 }
 
 // A title room,length,place says both.
@@ -112,31 +127,39 @@ fn reported(
 }
 
 // What a measurement left: room shows the array; part what it did in a series, D and c being OVR[16] and OVR[20].
-fn left(area: &[i32], title: &[u8], tool: bool, f: Fields, results: &[i32]) {
+fn left(
+    rt: &impl Print,
+    area: &[i32],
+    title: &[u8],
+    tool: bool,
+    f: Fields,
+    results: &[i32],
+) -> io::Result<()> {
     let word = read::up_to(title, b',');
     if same(word, b"room") {
-        text(b" array");
-        return print::each(results, Style::Plain);
+        text(rt, b" array")?;
+        return print::each(rt, results, Style::Plain);
     }
     if same(word, b"part") {
-        named(b"D", part(results, 16, 1));
-        named(b"MV", record(area, MEANS, f.sizes[MV]));
-        named(b"c", part(results, 20, 1));
-        return named(b"radius", part(record(area, TOOLS, f.sizes[RECORD]), 0, 1));
+        named(rt, b"D", part(results, 16, 1))?;
+        named(rt, b"MV", record(area, MEANS, f.sizes[MV]))?;
+        named(rt, b"c", part(results, 20, 1))?;
+        let wears = record(area, TOOLS, f.sizes[RECORD]);
+        return named(rt, b"radius", part(wears, 0, 1));
     }
-    records(area, tool, f);
-    text(b" OVR");
-    print::each(part(results, 0, OVR), Style::Places);
-    text(b" OVI");
-    print::each(part(results, OVR, RESULTS - OVR), Style::Places);
+    records(rt, area, tool, f)?;
+    text(rt, b" OVR")?;
+    print::each(rt, part(results, 0, OVR), Style::Places)?;
+    text(rt, b" OVI")?;
+    print::each(rt, part(results, OVR, RESULTS - OVR), Style::Places)
 }
 
-fn records(area: &[i32], tool: bool, f: Fields) {
+fn records(rt: &impl Print, area: &[i32], tool: bool, f: Fields) -> io::Result<()> {
     if tool {
-        named(b"MV", record(area, MEANS, f.sizes[MV]));
-        named(b"wear", record(area, TOOLS, f.sizes[RECORD]));
+        named(rt, b"MV", record(area, MEANS, f.sizes[MV]))?;
+        named(rt, b"wear", record(area, TOOLS, f.sizes[RECORD]))
     } else {
-        named(b"axes", record(area, OFFSETS, f.sizes[RECORD]));
+        named(rt, b"axes", record(area, OFFSETS, f.sizes[RECORD]))
     }
 }
 

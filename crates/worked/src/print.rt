@@ -4,10 +4,10 @@ ghost use Rattle.layout.specs.Layout.{end};
 ghost use Rattle.area.specs.Table.{area_length};
 
 use layout::Section;
-use libc::STDOUT_FILENO;
+use std::io;
 
 // How numbers are written: all; those that are not 0, with their indices; two by two, all or those that are not both 0, with their numbers.
-#[derive(Drop)]
+#[derive(Clone, Copy)]
 pub enum Style {
     Plain,
     Places,
@@ -15,33 +15,29 @@ pub enum Style {
     Numbered,
 }
 
-pub fn text(s: &[u8]) {
-    io::write_all(STDOUT_FILENO, s);
+pub fn text(rt: &impl Print, s: &[u8]) -> io::Result<()> {
+    rt.write_all(s)
 }
 
-pub fn unsigned(v: u64) {
-    io::print_decimal(STDOUT_FILENO, v);
+pub fn unsigned(rt: &impl Print, v: u64) -> io::Result<()> {
+    rt.print(v)
 }
 
-fn number(v: i32) {
+fn number(rt: &impl Print, v: i32) -> io::Result<()> {
     if v < 0 {
-        text(b"-");
+        text(rt, b"-")?;
     }
-    unsigned(size(v));
+    unsigned(rt, size(v))
 }
 
 fn size(v: i32) -> u64 {
-    let w = v as i64;
-    if w < 0 {
-        return (0 - w) as u64;
-    }
-    w as u64
+    u64::from(v.unsigned_abs())
 }
 
 // A refusal, a branch or a verdict.
-pub fn answer(n: u32) {
-    text(b" ");
-    unsigned(n as u64);
+pub fn answer(rt: &impl Print, n: u32) -> io::Result<()> {
+    text(rt, b" ")?;
+    unsigned(rt, u64::from(n))
 }
 
 // So many numbers from a place on; none where these are not there.
@@ -64,7 +60,8 @@ pub fn record(area: &[i32], s: Section, n: usize) -> &[i32]
     if s.count < n {
         return part(area, 0, 0);
     }
-    part(area, start(s, n - 1), s.width)
+    let width = s.width;
+    part(area, start(s, n - 1), width)
 }
 
 fn start(s: Section, i: usize) -> usize
@@ -81,36 +78,37 @@ pub fn section(area: &[i32], s: Section) -> &[i32]
 }
 
 // Numbers after their name; nothing where there are none.
-pub fn named(name: &[u8], values: &[i32]) {
+pub fn named(rt: &impl Print, name: &[u8], values: &[i32]) -> io::Result<()> {
     if 0 < values.len() {
-        text(b" ");
-        text(name);
-        each(values, Style::Plain);
+        text(rt, b" ")?;
+        text(rt, name)?;
+        each(rt, values, Style::Plain)?;
     }
+    Ok(())
 }
 
 // The first and the last of numbers after their name.
-pub fn ends(name: &[u8], values: &[i32]) {
+pub fn ends(rt: &impl Print, name: &[u8], values: &[i32]) -> io::Result<()> {
     if 0 < values.len() {
-        named(name, part(values, 0, 1));
-        each(part(values, values.len() - 1, 1), Style::Plain);
+        named(rt, name, part(values, 0, 1))?;
+        each(rt, part(values, values.len() - 1, 1), Style::Plain)?;
     }
+    Ok(())
 }
 
-pub fn each(values: &[i32], style: Style) {
-    let mut i: usize = 0;
-    while i < values.len() {
-        one(values, i, style);
-        i += 1;
+pub fn each(rt: &impl Print, values: &[i32], style: Style) -> io::Result<()> {
+    for i in 0..values.len() {
+        one(rt, values, i, style)?;
     }
+    Ok(())
 }
 
-fn one(values: &[i32], i: usize, style: Style) {
+fn one(rt: &impl Print, values: &[i32], i: usize, style: Style) -> io::Result<()> {
     match style {
-        Style::Plain => plain(at(values, i)),
-        Style::Places => place(i, at(values, i)),
-        Style::Pairs => pair(values, i, false),
-        Style::Numbered => pair(values, i, true),
+        Style::Plain => plain(rt, at(values, i)),
+        Style::Places => place(rt, i, at(values, i)),
+        Style::Pairs => pair(rt, values, i, false),
+        Style::Numbered => pair(rt, values, i, true),
     }
 }
 
@@ -118,54 +116,53 @@ fn at(values: &[i32], i: usize) -> i32 {
     if i < values.len() { values[i] } else { 0 }
 }
 
-fn plain(v: i32) {
-    text(b" ");
-    number(v);
+fn plain(rt: &impl Print, v: i32) -> io::Result<()> {
+    text(rt, b" ")?;
+    number(rt, v)
 }
 
-fn place(i: usize, v: i32) {
+fn place(rt: &impl Print, i: usize, v: i32) -> io::Result<()> {
     if v != 0 {
-        numbered(i);
-        number(v);
+        numbered(rt, i)?;
+        number(rt, v)?;
     }
+    Ok(())
 }
 
-fn numbered(i: usize) {
-    text(b" ");
-    unsigned(i as u64);
-    text(b"=");
+fn numbered(rt: &impl Print, i: usize) -> io::Result<()> {
+    text(rt, b" ")?;
+    unsigned(rt, i as u64)?;
+    text(rt, b"=")
 }
 
 // A pair, at the index of its second number.
-fn pair(values: &[i32], i: usize, few: bool) {
+fn pair(rt: &impl Print, values: &[i32], i: usize, few: bool) -> io::Result<()> {
     if i % 2 == 0 {
-        return;
+        return Ok(());
     }
     let v = at(values, i - 1);
     let w = at(values, i);
     if few {
         if (v == 0) & (w == 0) {
-            return;
+            return Ok(());
         }
-        numbered(i / 2 + 1);
-        number(v);
+        numbered(rt, i / 2 + 1)?;
+        number(rt, v)?;
     } else {
-        plain(v);
+        plain(rt, v)?;
     }
-    text(b"/");
-    number(w);
+    text(rt, b"/")?;
+    number(rt, w)
 }
 
 // Each byte after a space.
-pub fn hexadecimal(bytes: &[u8]) {
-    let mut i: usize = 0;
-    while i < bytes.len() {
-        byte(bytes[i]);
-        i += 1;
+pub fn hexadecimal(rt: &impl Print, bytes: &[u8]) -> io::Result<()> {
+    for b in bytes {
+        byte(rt, *b)?;
     }
+    Ok(())
 }
 
-fn byte(b: u8) {
-    text(b" ");
-    io::print_hex(STDOUT_FILENO, b as u64, 2);
+fn byte(rt: &impl Print, b: u8) -> io::Result<()> {
+    print!(rt; " {b:02x}")
 }

@@ -1,5 +1,8 @@
-// Parts of a row, and the numbers of its fields. Nothing here has a condition: what is not there is empty, or 0.
-use bytes::scan::find;
+// What is read of a file, the parts of a row, and the numbers of its fields. Nothing here has a condition: what is not there is empty, or 0.
+ghost use Rattle.std.specs.Prelude.{◌≡◌, ◌≤◌, ◌↔◌, length, IfOk, IsTrue};
+
+use std::io;
+use std::io::Read;
 
 // As many fields as a row may have.
 pub const MOST: usize = 100;
@@ -12,7 +15,7 @@ const LEAST: i64 = -9_223_372_036_854_775_808;
 
 // The fields of a row: how many were read, whether one is no number of i64, and each as a number, as a size, which is 0 below 0, and as a byte;
 // then the field at hand.
-#[derive(Drop)]
+#[derive(Clone, Copy)]
 pub struct Fields {
     pub count: usize,
     pub wrong: bool,
@@ -24,10 +27,27 @@ pub struct Fields {
     minus: bool,
 }
 
+// Reads until the buffer is full or the input ends, and answers how many bytes it read.
+pub fn read_full(input: &mut impl Read, buffer: &mut [u8]) -> io::Result<usize>
+    ensures { IfOk result (λ n. n ≤ length buffer.new) }
+{
+    let mut done: usize = 0;
+    while done < buffer.len() {
+        let size = input.read(&mut buffer[done..])?;
+        if size == 0 {
+            break;
+        }
+        done += size;
+    }
+    Ok(done)
+}
+
 // The bytes up to the first b, and those behind a place.
 pub fn up_to(s: &[u8], b: u8) -> &[u8] {
-    let end = find(s, 0, s.len(), b);
-    &s[0..end]
+    match s.iter().position(|x| *x == b) {
+        Some(end) => &s[0..end],
+        None => s,
+    }
 }
 
 pub fn behind(s: &[u8], at: usize) -> &[u8] {
@@ -35,6 +55,13 @@ pub fn behind(s: &[u8], at: usize) -> &[u8] {
         return &s[at + 1..];
     }
     &s[0..0]
+}
+
+// Whether two texts are the same.
+pub fn same(a: &[u8], b: &[u8]) -> bool
+    ensures { IsTrue result ↔ (a.now ≡ b.now) }
+{
+    a == b
 }
 
 // The first of bytes or numbers, as many as are asked.
@@ -58,10 +85,8 @@ pub fn read_fields(s: &[u8]) -> Fields {
     if s.len() == 0 {
         return f;
     }
-    let mut i: usize = 0;
-    while i < s.len() {
-        f = with_byte(f, s[i]);
-        i += 1;
+    for b in s {
+        f = with_byte(f, *b);
     }
     ended(f)
 }

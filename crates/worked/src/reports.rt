@@ -3,7 +3,7 @@ use crate::read::Fields;
 use floats::float_of_bits;
 
 // Which raws are reports, and X, Y and Z of each.
-#[derive(Drop)]
+#[derive(Clone, Copy)]
 pub struct Reports {
     pub marks: u32,
     pub floats: [f32; 12],

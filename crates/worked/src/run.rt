@@ -2,12 +2,12 @@
 use crate::measure::measured;
 use crate::print;
 use crate::print::{Style, named, part, record, section, text};
-use crate::read::{Fields, behind, first_bytes, read_fields, up_to};
+use crate::read::{Fields, behind, first_bytes, read_fields, same, up_to};
 use crate::reports::float;
 use area::{EMPIRICALS, MEANS, OFFSETS, PROBES, TOOLS};
-use check::same;
 use package::records::Status;
 use signed::in_range;
+use std::io;
 
 // What is shown of a row, by the mark before it: all where there is none; the row and its refusal; the refusal alone; nothing.
 pub const WHOLE: u8 = b' ';
@@ -31,128 +31,148 @@ const LEAST: i64 = -2_147_483_648;
 const GREATEST: i64 = 2_147_483_647;
 
 // Makes the call of a row, by its word.
-pub fn run(area: &mut [i32], mark: u8, title: &[u8], word: &[u8], f: Fields) {
+pub fn run(
+    rt: &impl Print,
+    area: &mut [i32],
+    mark: u8,
+    title: &[u8],
+    word: &[u8],
+    f: Fields,
+) -> io::Result<()> {
     if f.wrong {
-        return unread();
+        return unread(rt);
     }
     if same(word, b"T") {
-        return measured(area, mark, title, true, f);
+        return measured(rt, area, mark, title, true, f);
     }
     if same(word, b"Z") {
-        return measured(area, mark, title, false, f);
+        return measured(rt, area, mark, title, false, f);
     }
     if same(word, b"load") {
-        return load(area, mark, f);
+        return load(rt, area, mark, f);
     }
     if is(word, b"C", f.count, 7) {
-        return calibration(area, mark, title, f);
+        return calibration(rt, area, mark, title, f);
     }
-    set(area, mark, word, f);
+    set(rt, area, mark, word, f)
 }
 
 // A record or a number of the area is set.
-fn set(area: &mut [i32], mark: u8, word: &[u8], f: Fields) {
+fn set(rt: &impl Print, area: &mut [i32], mark: u8, word: &[u8], f: Fields) -> io::Result<()> {
     if is(word, b"E", f.count, 2) {
-        return empirical(area, mark, f);
+        return empirical(rt, area, mark, f);
     }
     if is(word, b"W", f.count, 3) {
-        return wear(area, mark, f);
+        return wear(rt, area, mark, f);
     }
     if is(word, b"O", f.count, 4) {
-        return offset(area, mark, f);
+        return offset(rt, area, mark, f);
     }
     if is(word, b"fresh", f.count, 0) {
-        answered(mark, boundary::mezhtolik_fresh(area));
-        return;
+        answered(rt, mark, boundary::mezhtolik_fresh(area))?;
+        return Ok(());
     }
     if is(word, b"number", f.count, 2) {
-        return put(area, f.sizes[0], f.numbers[1]);
+        return put(rt, area, f.sizes[0], f.numbers[1]);
     }
-    look(&area[..], mark, word, f);
+    look(rt, &area[..], mark, word, f)
 }
 
 // Nothing is changed: a call that only reads, or a record shown.
-fn look(area: &[i32], mark: u8, word: &[u8], f: Fields) {
+fn look(rt: &impl Print, area: &[i32], mark: u8, word: &[u8], f: Fields) -> io::Result<()> {
     if is(word, b"status", f.count, 1) {
-        return status(mark, boundary::mezhtolik_probe_status(area, f.numbers[0]));
+        let s = boundary::mezhtolik_probe_status(area, f.numbers[0]);
+        return status(rt, mark, s);
     }
     if is(word, b"save", f.count, 1) {
-        return save(area, mark, f.sizes[0]);
+        return save(rt, area, mark, f.sizes[0]);
     }
     if is(word, b"offset", f.count, 1) {
-        return named(b"axes", record(area, OFFSETS, f.sizes[0]));
+        return named(rt, b"axes", record(area, OFFSETS, f.sizes[0]));
     }
     if is(word, b"probe", f.count, 1) {
-        return probe(record(area, PROBES, f.sizes[0]));
+        return probe(rt, record(area, PROBES, f.sizes[0]));
     }
-    store(area, word, f.count);
+    store(rt, area, word, f.count)
 }
 
 // A store shown whole.
-fn store(area: &[i32], word: &[u8], count: usize) {
+fn store(rt: &impl Print, area: &[i32], word: &[u8], count: usize) -> io::Result<()> {
     if is(word, b"memory", count, 0) {
-        named(b"EV", section(area, EMPIRICALS));
-        return named(b"MV", section(area, MEANS));
+        named(rt, b"EV", section(area, EMPIRICALS))?;
+        return named(rt, b"MV", section(area, MEANS));
     }
     if is(word, b"wears", count, 0) {
-        return print::each(section(area, TOOLS), Style::Numbered);
+        return print::each(rt, section(area, TOOLS), Style::Numbered);
     }
     if is(word, b"pairs", count, 0) {
-        return print::each(section(area, TOOLS), Style::Pairs);
+        return print::each(rt, section(area, TOOLS), Style::Pairs);
     }
-    unread();
+    unread(rt)
 }
 
 fn is(word: &[u8], name: &[u8], count: usize, asked: usize) -> bool {
     same(word, name) & (count == asked)
 }
 
-fn unread() {
-    text(b" ?");
+fn unread(rt: &impl Print) -> io::Result<()> {
+    text(rt, b" ?")
 }
 
 // Shows a refusal; answers whether records are shown too.
-pub fn answered(mark: u8, refusal: u32) -> bool {
+pub fn answered(rt: &impl Print, mark: u8, refusal: u32) -> io::Result<bool> {
     if mark != SILENT {
-        print::answer(refusal);
+        print::answer(rt, refusal)?;
     }
-    mark == WHOLE
+    Ok(mark == WHOLE)
 }
 
-fn empirical(area: &mut [i32], mark: u8, f: Fields) {
+fn empirical(rt: &impl Print, area: &mut [i32], mark: u8, f: Fields) -> io::Result<()> {
     let n = f.numbers;
-    if answered(mark, boundary::mezhtolik_set_empirical(area, n[0], n[1])) {
-        named(b"EV", record(&area[..], EMPIRICALS, f.sizes[0]));
+    let refusal = boundary::mezhtolik_set_empirical(area, n[0], n[1]);
+    if answered(rt, mark, refusal)? {
+        named(rt, b"EV", record(&area[..], EMPIRICALS, f.sizes[0]))?;
     }
+    Ok(())
 }
 
-fn wear(area: &mut [i32], mark: u8, f: Fields) {
+fn wear(rt: &impl Print, area: &mut [i32], mark: u8, f: Fields) -> io::Result<()> {
     let n = f.numbers;
-    if answered(mark, boundary::mezhtolik_set_wear(area, n[0], n[1], n[2])) {
+    let refusal = boundary::mezhtolik_set_wear(area, n[0], n[1], n[2]);
+    if answered(rt, mark, refusal)? {
         let wears = record(&area[..], TOOLS, f.sizes[0]);
-        named(b"radius", part(wears, 0, 1));
-        named(b"length", part(wears, 1, 1));
+        named(rt, b"radius", part(wears, 0, 1))?;
+        named(rt, b"length", part(wears, 1, 1))?;
     }
+    Ok(())
 }
 
-fn offset(area: &mut [i32], mark: u8, f: Fields) {
+fn offset(rt: &impl Print, area: &mut [i32], mark: u8, f: Fields) -> io::Result<()> {
     let n = f.numbers;
     let refusal = boundary::mezhtolik_set_offset(area, n[0], n[1], n[2], n[3]);
-    if answered(mark, refusal) {
-        named(b"axes", record(&area[..], OFFSETS, f.sizes[0]));
+    if answered(rt, mark, refusal)? {
+        named(rt, b"axes", record(&area[..], OFFSETS, f.sizes[0]))?;
     }
+    Ok(())
 }
 
-fn calibration(area: &mut [i32], mark: u8, title: &[u8], f: Fields) {
+fn calibration(
+    rt: &impl Print,
+    area: &mut [i32],
+    mark: u8,
+    title: &[u8],
+    f: Fields,
+) -> io::Result<()> {
     let n = f.numbers;
     let refusal = calibrate(area, title, f);
-    if answered(mark, refusal) {
+    if answered(rt, mark, refusal)? {
         let t = trigger(record(&area[..], PROBES, f.sizes[0]), f.sizes[1], n[2]);
-        named(b"trigger", t);
+        named(rt, b"trigger", t)?;
         if 0 < t.len() {
-            bits(boundary::mezhtolik_probe_status(&area[..], n[0]));
+            bits(rt, boundary::mezhtolik_probe_status(&area[..], n[0]))?;
         }
     }
+    Ok(())
 }
 
 // A title report,x,y,z has the bits of the floats that take the place of the raw.
@@ -187,58 +207,61 @@ fn trigger(probe: &[i32], axis: usize, direction: i64) -> &[i32] {
     }
 }
 
-fn status(mark: u8, s: Status) {
-    if answered(mark, s.refusal) {
-        bits(s);
+fn status(rt: &impl Print, mark: u8, s: Status) -> io::Result<()> {
+    if answered(rt, mark, s.refusal)? {
+        bits(rt, s)?;
     }
+    Ok(())
 }
 
-fn bits(s: Status) {
-    text(b" bits ");
-    print::unsigned(s.bits as u64);
-    text(b" count ");
-    print::unsigned(s.count as u64);
+fn bits(rt: &impl Print, s: Status) -> io::Result<()> {
+    text(rt, b" bits ")?;
+    print::unsigned(rt, u64::from(s.bits))?;
+    text(rt, b" count ")?;
+    print::unsigned(rt, u64::from(s.count))
 }
 
-fn probe(x: &[i32]) {
-    named(b"triggers", part(x, 0, TRIGGERS));
-    named(b"bits", part(x, TRIGGERS, 1));
+fn probe(rt: &impl Print, x: &[i32]) -> io::Result<()> {
+    named(rt, b"triggers", part(x, 0, TRIGGERS))?;
+    named(rt, b"bits", part(x, TRIGGERS, 1))
 }
 
 // The fields are the block's bytes.
-fn load(area: &mut [i32], mark: u8, f: Fields) {
+fn load(rt: &impl Print, area: &mut [i32], mark: u8, f: Fields) -> io::Result<()> {
     let bytes = f.bytes;
-    if answered(
-        mark,
-        boundary::mezhtolik_load(area, first_bytes(&bytes, f.count)),
-    ) {
-        print::ends(b"EV", section(&area[..], EMPIRICALS));
-        print::ends(b"MV", section(&area[..], MEANS));
+    let refusal = boundary::mezhtolik_load(area, first_bytes(&bytes, f.count));
+    if answered(rt, mark, refusal)? {
+        print::ends(rt, b"EV", section(&area[..], EMPIRICALS))?;
+        print::ends(rt, b"MV", section(&area[..], MEANS))?;
     }
+    Ok(())
 }
 
-fn save(area: &[i32], mark: u8, length: usize) {
+fn save(rt: &impl Print, area: &[i32], mark: u8, length: usize) -> io::Result<()> {
     let mut buffer = [FILL; BUFFER];
     if length <= BUFFER {
-        saved(area, mark, &mut buffer[0..length]);
+        saved(rt, area, mark, &mut buffer[0..length])
     } else {
-        unread();
+        unread(rt)
     }
 }
 
-fn saved(area: &[i32], mark: u8, buffer: &mut [u8]) {
-    if answered(mark, boundary::mezhtolik_save(area, buffer)) {
-        text(b" bytes");
-        print::hexadecimal(buffer);
+fn saved(rt: &impl Print, area: &[i32], mark: u8, buffer: &mut [u8]) -> io::Result<()> {
+    let refusal = boundary::mezhtolik_save(area, buffer);
+    if answered(rt, mark, refusal)? {
+        text(rt, b" bytes")?;
+        print::hexadecimal(rt, buffer)?;
     }
+    Ok(())
 }
 
 // Sets a number of the area, so that it may be what no call leaves; 0 for what it cannot be.
-fn put(area: &mut [i32], i: usize, v: i64) {
+fn put(rt: &impl Print, area: &mut [i32], i: usize, v: i64) -> io::Result<()> {
     if i < area.len() {
         area[i] = narrow(v);
+        Ok(())
     } else {
-        unread();
+        unread(rt)
     }
 }
 

@@ -9,7 +9,7 @@
 //! unit (h) is 0.05 µm: wears and zero offsets. What was read at a touch is a
 //! [`Reading`]: a whole position in u, or a [`Report`] of a float box in mm.
 //!
-//! To build it, run `rt staticlib boundary` at the root of the repository, or
+//! To build it, run `tests/library` at the root of the repository, or
 //! set `MEZHTOLIK_LIB_DIR` to the folder of `libboundary.a`.
 #![no_std]
 

@@ -88,6 +88,12 @@ returns-then-area-ne-AREA c =
     rw (c.not_answered.ensures.0, c.not_answered.ensures.1) (wrong_area (asked s.a s.area.now s.results.now s.place) c.if-area-ne-AREA.true)
 
 -- ---- the arguments
+pub tool_refusal-stated-requires : goal.tool_refusal-stated-requires
+tool_refusal-stated-requires c =
+    let a = c.args.a in
+    let read : to_z w64 (of_z w64 a.probing.kind) ≡ a.probing.kind = search rules in
+    kind_is a c.kind_of-k.ensures read
+
 pub refused-requires : goal.refused-requires
 refused-requires c =
     let s = c.args in
