@@ -1,5 +1,5 @@
 -- After each turn the lines that are left, run on the area as it is, come to what all come to, and the output so far is the text of those before.
-use Rattle.std.proofs.Common.{◌≡◌, ◌∙◌, ap, sym, subst, ℕ, ◌+◌, ◌-◌, ◌*◌, ◌^◌, ◌<◌, ◌≤◌, List, ◌∷◌, ◌++◌, ℤ, length, take, drop, arith, append_assoc, append-nil, length-drop, length-take-le, take-append-drop, drop-drop, rules}
+use Rattle.std.proofs.Common.{◌≡◌, ◌∙◌, ap, sym, subst, ℕ, ◌+◌, ◌-◌, ◌^◌, ◌<◌, ◌≤◌, List, ◌∷◌, ◌++◌, ℤ, length, take, drop, arith, append_assoc, append-nil, length-drop, length-take-le, take-append-drop, drop-drop, rules}
 use lib.Signed.{mag, nat_abs-le}
 use Rattle.lists.specs.Copied.{part_end}
 use Rattle.lists.specs.Written.{written}
@@ -9,7 +9,6 @@ use Rattle.text.specs.PieceLaws.{lines_first, lines_end, has_line}
 use Rattle.area.specs.Table.{area_length}
 use Rattle.job_limits.specs.JobRuleLaws.{Runs, runs_when}
 use Rattle.job_text.specs.Lines.{Said, said_by}
-use Rattle.job_answers.specs.declared.Row.{Row}
 use Rattle.job_answers.specs.LineAnswers.{row_text}
 use Rattle.job_answers.specs.AnswerLaws.{Small, at_most_40}
 use Rattle.job_lines.specs.LineCalled.{Ran, ran_as, line_ran}

@@ -2,7 +2,8 @@
 use Rattle.std.proofs.Common.{◌≡◌, ℕ, ◌+◌, ◌-◌, List, length, take, drop, sym, arith, length-take}
 use Rattle.lists.specs.Copied.{part_end}
 use Rattle.text.specs.Pieces.{lines}
-use Rattle.text.specs.PieceLaws.{count_part, count_le}
+use Rattle.text.specs.PieceLaws.{count_le}
+use Rattle.text.proofs.PieceLaws.{count_part}
 use Rattle.line_counts.proofs.count_lines.Goals as goal
 
 -- the lines of a block, and those behind it

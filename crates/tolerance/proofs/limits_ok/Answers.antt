@@ -2,7 +2,6 @@
 use mir.Syntax.{w64}
 use mir.Val.{SFits}
 use mir.Facts.{to_z-of_z}
-use borrow.Author.Rules.{rules}
 use Rattle.rules.specs.Tool.{limits_ok}
 use Rattle.tolerance.proofs.limits_ok.Goals as goal
 

@@ -9,7 +9,7 @@ use Rattle.signed.specs.CodeLaws.{widened, read}
 use Rattle.package.specs.declared.arguments.ToolMeasurement.{ToolMeasurement}
 use Rattle.rules.specs.Mean.{mean_step}
 use Rattle.rules.specs.Tool.{weight, branch_of, decided}
-use Rattle.rules.specs.InRange.{left_in_range}
+use Rattle.rules.proofs.InRange.{left_in_range}
 use Rattle.rules.specs.Passed.{ToolArgumentsPassed}
 use Rattle.mean_value.specs.MeanSize.{mean_size}
 use Rattle.evaluation.specs.FoundSmall.{value_size}
