@@ -1,9 +1,8 @@
 // The job program: runs a job on a fresh package and prints the answers of its lines. Document 01, 'Job files'.
 #![tactic(auto)]
 
-ghost use Rattle.std.specs.Prelude.{◌≤◌, length, IfOk};
-
 use area::AREA;
+use file_input::read_full;
 use fresh_area::fresh;
 use job_limits::{JOB_LIMIT, LINE_ROOM, LINES_LIMIT};
 use jobs::run_job;
@@ -36,21 +35,6 @@ fn print_answers(rt: &impl Print, errors: &impl Print, job: &[u8], path: &[u8]) 
         return job_report::unwritten(errors, path);
     }
     Ok(())
-}
-
-// Reads until the buffer is full or the input ends, and answers how many bytes it read.
-fn read_full(input: &mut impl Read, buffer: &mut [u8]) -> io::Result<usize>
-    ensures { IfOk result (λ n. n ≤ length buffer.new) }
-{
-    let mut done: usize = 0;
-    while done < buffer.len() {
-        let size = input.read(&mut buffer[done..])?;
-        if size == 0 {
-            break;
-        }
-        done += size;
-    }
-    Ok(done)
 }
 
 fn run_open(

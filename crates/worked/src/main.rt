@@ -31,6 +31,7 @@ mod reports;
 mod run;
 
 use area::AREA;
+use file_input::read_full;
 use print::text;
 use run::{ANSWER, REFUSAL, SILENT, WHOLE};
 use std::fs::File;
@@ -55,7 +56,7 @@ fn main(rt: HostRuntime) -> io::Result<()> {
 fn file(rt: &(impl Files + Print), path: &str) -> io::Result<()> {
     let mut buffer = [0u8; MOST_READ];
     let size = match File::open(rt, path) {
-        Ok(mut input) => read::read_full(&mut input, &mut buffer)?,
+        Ok(mut input) => read_full(&mut input, &mut buffer)?,
         Err(_) => 0,
     };
     let mut area = [UNSET; AREA];

@@ -1,8 +1,5 @@
 // What is read of a file, the parts of a row, and the numbers of its fields. Nothing here has a condition: what is not there is empty, or 0.
-ghost use Rattle.std.specs.Prelude.{◌≡◌, ◌≤◌, ◌↔◌, length, IfOk, IsTrue};
-
-use std::io;
-use std::io::Read;
+ghost use Rattle.std.specs.Prelude.{◌≡◌, ◌↔◌, IsTrue};
 
 // As many fields as a row may have.
 pub const MOST: usize = 100;
@@ -25,21 +22,6 @@ pub struct Fields {
     size: u64,
     digits: bool,
     minus: bool,
-}
-
-// Reads until the buffer is full or the input ends, and answers how many bytes it read.
-pub fn read_full(input: &mut impl Read, buffer: &mut [u8]) -> io::Result<usize>
-    ensures { IfOk result (λ n. n ≤ length buffer.new) }
-{
-    let mut done: usize = 0;
-    while done < buffer.len() {
-        let size = input.read(&mut buffer[done..])?;
-        if size == 0 {
-            break;
-        }
-        done += size;
-    }
-    Ok(done)
 }
 
 // The bytes up to the first b, and those behind a place.
