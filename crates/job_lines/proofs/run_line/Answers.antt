@@ -1,9 +1,5 @@
 -- By its letter a line is one of the calls, whose answer and area are those of the line; any other byte is no letter.
 use Rattle.std.proofs.Common.{◌≡◌, ap, sym, ℕ, List, ℤ, rules}
-use Rattle.signed.specs.CodeLaws.{read}
-use Rattle.arguments.specs.Arguments.{at}
-use Rattle.rules.specs.Calibration.{calibration}
-use Rattle.rules.specs.Calls.{set_empirical, set_wear, set_offset, calibrate}
 use Rattle.job_text.specs.Letters.{letter_g}
 use Rattle.job_text.specs.Fields.{said_in}
 use Rattle.job_lines.specs.LineCalled.{line_ran}
@@ -17,46 +13,26 @@ said v letter byte e = ap (λ (b : ℕ). said_in b v) (sym e)
 pub returns-in-69 : goal.returns-in-69
 unfolding said_in
 returns-in-69 c =
-    let v = c.args.v.now in
-    let f0 = read (at v 0) (search rules) in
-    let f1 = read (at v 1) (search rules) in
-    call_ran c.args.area.now c.args.number (set_empirical (at v 0) (at v 1)) (rw (f0, f1) at c.set_empirical.ensures)
-    c.unmeasured.ensures (said v c.args.letter 69 c.in-69.is)
+    call_ran c.args.area.now c.args.number _ (search rules) c.unmeasured.ensures
+    (said c.args.v.now c.args.letter 69 c.in-69.is)
 
 pub returns-in-87 : goal.returns-in-87
 unfolding said_in
 returns-in-87 c =
-    let v = c.args.v.now in
-    let f0 = read (at v 0) (search rules) in
-    let f1 = read (at v 1) (search rules) in
-    let f2 = read (at v 2) (search rules) in
-    call_ran c.args.area.now c.args.number (set_wear (at v 0) (at v 1) (at v 2)) (rw (f0, f1, f2) at c.set_wear.ensures)
-    c.unmeasured-in-87.ensures (said v c.args.letter 87 c.in-87.is)
+    call_ran c.args.area.now c.args.number _ (search rules) c.unmeasured-in-87.ensures
+    (said c.args.v.now c.args.letter 87 c.in-87.is)
 
 pub returns-in-79 : goal.returns-in-79
 unfolding said_in
 returns-in-79 c =
-    let v = c.args.v.now in
-    let f0 = read (at v 0) (search rules) in
-    let f1 = read (at v 1) (search rules) in
-    let f2 = read (at v 2) (search rules) in
-    let f3 = read (at v 3) (search rules) in
-    call_ran c.args.area.now c.args.number (set_offset (at v 0) (at v 1) (at v 2) (at v 3)) (rw (f0, f1, f2, f3) at c.set_offset.ensures)
-    c.unmeasured-in-79.ensures (said v c.args.letter 79 c.in-79.is)
+    call_ran c.args.area.now c.args.number _ (search rules) c.unmeasured-in-79.ensures
+    (said c.args.v.now c.args.letter 79 c.in-79.is)
 
 pub returns-in-67 : goal.returns-in-67
 unfolding said_in
 returns-in-67 c =
-    let v = c.args.v.now in
-    let f0 = read (at v 0) (search rules) in
-    let f1 = read (at v 1) (search rules) in
-    let f2 = read (at v 2) (search rules) in
-    let f3 = read (at v 3) (search rules) in
-    let f4 = read (at v 4) (search rules) in
-    let f5 = read (at v 5) (search rules) in
-    let f6 = read (at v 6) (search rules) in
-    call_ran c.args.area.now c.args.number (calibrate (calibration (at v 0) (at v 1) (at v 2) (at v 3) (at v 4) (at v 5) (at v 6))) (rw (f0, f1, f2, f3, f4, f5, f6) at c.calibrate_by.ensures)
-    c.unmeasured-in-67.ensures (said v c.args.letter 67 c.in-67.is)
+    call_ran c.args.area.now c.args.number _ (search rules) c.unmeasured-in-67.ensures
+    (said c.args.v.now c.args.letter 67 c.in-67.is)
 
 pub returns-in-84 : goal.returns-in-84
 unfolding said_in
