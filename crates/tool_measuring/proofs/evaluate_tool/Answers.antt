@@ -32,6 +32,7 @@ use Rattle.evaluation.specs.FoundSmall.{value_size}
 use Rattle.measuring.specs.Reply.{tool}
 use Rattle.measuring.specs.ReplyLaws.{Asked, by_arguments, by_tests, small, wrong_area, refused, done}
 use Rattle.tool_measuring.proofs.evaluate_tool.Goals as goal
+use Rattle.tool_measuring.proofs.evaluate_tool.Goals.{After-kind_of-k, Else-stated-ne-DONE}
 
 -- ---- of what the code found
 module _ (r : ToolRecords) (a : ToolMeasurement) {f : Found} (found : f ≡ tool_found r a) where
@@ -82,6 +83,12 @@ module _ (a : ToolMeasurement) where
         → n ≡ first (tool_rules records a)
     number_is z e f = by_tests asked z (e ∙ ap (λ (t : Tests). first (record_rules t)) (tests_are records a f))
 
+kind_found : (c : After-kind_of-k) → c.kind_of-k.result ≡ tool_kind_of c.args.a
+kind_found c = kind_is c.args.a c.kind_of-k.ensures (search rules)
+
+args_passed : (c : Else-stated-ne-DONE) → ToolArgumentsPassed c.args.a
+args_passed c = passed c.args.a c.tool_refusal-stated.ensures c.if-stated-ne-DONE.false
+
 pub returns-then-area-ne-AREA : goal.returns-then-area-ne-AREA
 returns-then-area-ne-AREA c =
     let s = c.args in
@@ -89,10 +96,7 @@ returns-then-area-ne-AREA c =
 
 -- ---- the arguments
 pub tool_refusal-stated-requires : goal.tool_refusal-stated-requires
-tool_refusal-stated-requires c =
-    let a = c.args.a in
-    let read : to_z w64 (of_z w64 a.probing.kind) ≡ a.probing.kind = search rules in
-    kind_is a c.kind_of-k.ensures read
+tool_refusal-stated-requires c = kind_found (goal.at.tool_refusal-stated-requires c).After-kind_of-k
 
 pub refused-requires : goal.refused-requires
 refused-requires c =
@@ -112,23 +116,16 @@ returns-then-stated-ne-DONE c =
 pub tool_records-r-requires : goal.tool_records-r-requires
 tool_records-r-requires c = record {
   area_len = c.if-area-ne-AREA.false;
-  tool_numbers = (passed c.args.a c.tool_refusal-stated.ensures c.if-stated-ne-DONE.false).numbers;
+  tool_numbers = (args_passed (goal.at.tool_records-r-requires c).Else-stated-ne-DONE).numbers;
 }
 
 pub tool_found-f-requires : goal.tool_found-f-requires
 tool_found-f-requires c =
-    let a = c.args.a in
-    let read : to_z w64 (of_z w64 a.probing.kind) ≡ a.probing.kind = search rules in
-    record {
-      k_value = kind_is a c.kind_of-k.ensures read;
-      tool_arguments_passed = passed a c.tool_refusal-stated.ensures c.if-stated-ne-DONE.false;
-    }
+    let at = goal.at.tool_found-f-requires c in
+    record { k_value = kind_found at.After-kind_of-k; tool_arguments_passed = args_passed at.Else-stated-ne-DONE }
 
 pub tool_tests-requires : goal.tool_tests-requires
-tool_tests-requires c =
-    let a = c.args.a in
-    let read : to_z w64 (of_z w64 a.probing.kind) ≡ a.probing.kind = search rules in
-    record { k_value = kind_is a c.kind_of-k.ensures read; found_small = c.tool_found-f.ensures.1 }
+tool_tests-requires c = record { k_value = kind_found (goal.at.tool_tests-requires c).After-kind_of-k; found_small = c.tool_found-f.ensures.1 }
 
 pub refused-requires-then-refusal-ne-DONE : goal.refused-requires-then-refusal-ne-DONE
 refused-requires-then-refusal-ne-DONE c =
@@ -161,32 +158,27 @@ put_tool-requires c =
     let m = c.tool_found-f.ensures.1.decision.mean in
     record {
       area_len = c.if-area-ne-AREA.false;
-      tool_numbers = (passed c.args.a c.tool_refusal-stated.ensures c.if-stated-ne-DONE.false).numbers;
+      tool_numbers = (args_passed (goal.at.put_tool-requires c).Else-stated-ne-DONE).numbers;
       mean_value = rw (mean_read c.tool_found-f.result.decision.mean m) m;
     }
 
 pub put_tool_numbers-requires : goal.put_tool_numbers-requires
 put_tool_numbers-requires c =
-    let a = c.args.a in
-    let read : to_z w64 (of_z w64 a.probing.kind) ≡ a.probing.kind = search rules in
-    record {
-      k_value = kind_is a c.kind_of-k.ensures read;
-      tool_arguments_passed = (passed a c.tool_refusal-stated.ensures c.if-stated-ne-DONE.false, c.tool_found-f.ensures.1);
-    }
+    let at = goal.at.put_tool_numbers-requires c in
+    record { k_value = kind_found at.After-kind_of-k; tool_arguments_passed = (args_passed at.Else-stated-ne-DONE, c.tool_found-f.ensures.1) }
 
 pub returns : goal.returns
 returns c =
     let s = c.args in
     let a = s.a in
     let f = c.tool_found-f.result in
-    let read : to_z w64 (of_z w64 a.probing.kind) ≡ a.probing.kind = search rules in
     let wear_read : to_z w64 (of_z w64 f.wear) ≡ f.wear = search rules in
     let found = found_is a c.tool_found-f.ensures.0 c.tool_records-r.ensures in
     let z = none a c.tool_refusal-stated.ensures c.if-stated-ne-DONE.false in
     let e = refusal_is a f c.records_refusal-refusal.ensures c.tool_tests.ensures in
     let wear = rw wear_read at c.wears_left.ensures in
     let left = rw (mean_read f.decision.mean c.tool_found-f.ensures.1.decision.mean) at c.put_tool.ensures in
-    let changes = changes_are c.tool_records-r.result a c.tool_found-f.ensures.0 (kind_is a c.kind_of-k.ensures read) wear
+    let changes = changes_are c.tool_records-r.result a c.tool_found-f.ensures.0 (kind_found (goal.at.returns c).After-kind_of-k) wear
     ∙ ap (λ (r : ToolRecords). (meaning (measure_tool a lent 0)).changes r) c.tool_records-r.ensures in
     done (asked a s.area.now s.results.now s.place) c.if-area-ne-AREA.false
     (sym (number_is a s.area.now s.results.now s.place z e found) ∙ c.if-refusal-ne-DONE.false)

@@ -29,6 +29,7 @@ use Rattle.zero_offset.specs.ZeroFound.{ZeroFound, found_small}
 use Rattle.measuring.specs.Reply.{zero}
 use Rattle.measuring.specs.ReplyLaws.{Asked, by_arguments, by_tests, small, wrong_area, refused, done}
 use Rattle.zero_measuring.proofs.evaluate_zero.Goals as goal
+use Rattle.zero_measuring.proofs.evaluate_zero.Goals.{Else-stated-ne-DONE, After-zero_kind_of-k, After-sizes_of-s}
 
 -- ---- of what the code found
 module _ (a : ZeroMeasurement) where
@@ -65,6 +66,17 @@ module _ (a : ZeroMeasurement) where
         → n ≡ first (zero_rules records a)
     number_is z e f = by_tests asked z (e ∙ ap (λ (r : ZeroRecords). first (record_rules (zero_tests r a))) f)
 
+args_passed : (c : Else-stated-ne-DONE) → ZeroArgumentsPassed c.args.a
+args_passed c = passed c.args.a c.zero_refusal-stated.ensures c.if-stated-ne-DONE.false
+
+kind_found : (c : After-zero_kind_of-k) → c.zero_kind_of-k.result ≡ zero_kind_of c.args.a
+kind_found c = kind_is c.args.a c.zero_kind_of-k.ensures (search rules)
+
+all_found : (c : After-sizes_of-s) → ZeroFound c.zero_records-r.result c.args.a c.zero_kind_of-k.result c.sizes_of-s.result
+all_found c =
+    let at = goal.at.After-sizes_of-s c in
+    found c.args.a c.zero_records-r.result (args_passed at.Else-stated-ne-DONE) (kind_found at.After-zero_kind_of-k) c.sizes_of-s.ensures
+
 pub returns-then-area-ne-AREA : goal.returns-then-area-ne-AREA
 returns-then-area-ne-AREA c =
     let s = c.args in
@@ -89,23 +101,17 @@ returns-then-stated-ne-DONE c =
 pub zero_records-r-requires : goal.zero_records-r-requires
 zero_records-r-requires c = record {
   area_len = c.if-area-ne-AREA.false;
-  zero_numbers = (passed c.args.a c.zero_refusal-stated.ensures c.if-stated-ne-DONE.false).numbers;
+  zero_numbers = (args_passed (goal.at.zero_records-r-requires c).Else-stated-ne-DONE).numbers;
 }
 
 pub sizes_of-s-requires : goal.sizes_of-s-requires
 sizes_of-s-requires c =
-    let a = c.args.a in
-    let p = passed a c.zero_refusal-stated.ensures c.if-stated-ne-DONE.false in
-    let read : to_z w64 (of_z w64 a.probing.kind) ≡ a.probing.kind = search rules in
-    let k = kind_is a c.zero_kind_of-k.ensures read in
-    rw k (p.numbers.numbers, p.positions)
+    let at = goal.at.sizes_of-s-requires c in
+    let p = args_passed at.Else-stated-ne-DONE in
+    rw (kind_found at.After-zero_kind_of-k) (p.numbers.numbers, p.positions)
 
 pub zero_tests-requires : goal.zero_tests-requires
-zero_tests-requires c =
-    let a = c.args.a in
-    let p = passed a c.zero_refusal-stated.ensures c.if-stated-ne-DONE.false in
-    let read : to_z w64 (of_z w64 a.probing.kind) ≡ a.probing.kind = search rules in
-    found a c.zero_records-r.result p (kind_is a c.zero_kind_of-k.ensures read) c.sizes_of-s.ensures
+zero_tests-requires c = all_found (goal.at.zero_tests-requires c).After-sizes_of-s
 
 pub refused-requires-then-refusal-ne-DONE : goal.refused-requires-then-refusal-ne-DONE
 refused-requires-then-refusal-ne-DONE c =
@@ -129,44 +135,31 @@ pub offset_left-requires : goal.offset_left-requires
 offset_left-requires c =
     let a = c.args.a in
     let r = c.zero_records-r.result in
-    let p = passed a c.zero_refusal-stated.ensures c.if-stated-ne-DONE.false in
-    let read : to_z w64 (of_z w64 a.probing.kind) ≡ a.probing.kind = search rules in
     record {
-      zero_found = found a r p (kind_is a c.zero_kind_of-k.ensures read) c.sizes_of-s.ensures;
+      zero_found = all_found (goal.at.offset_left-requires c).After-sizes_of-s;
       a_value = (tests a r (refusal_is a r c.records_refusal-refusal.ensures c.zero_tests.ensures) c.if-refusal-ne-DONE.false).range;
     }
 
 pub put_zero-requires : goal.put_zero-requires
-put_zero-requires c = record {
-  area_len = c.if-area-ne-AREA.false;
-  zero_numbers = (passed c.args.a c.zero_refusal-stated.ensures c.if-stated-ne-DONE.false).numbers;
-}
+put_zero-requires c = record { area_len = c.if-area-ne-AREA.false; zero_numbers = (args_passed (goal.at.put_zero-requires c).Else-stated-ne-DONE).numbers }
 
 pub put_zero_numbers-requires : goal.put_zero_numbers-requires
 put_zero_numbers-requires c =
-    let a = c.args.a in
-    let r = c.zero_records-r.result in
-    let p = passed a c.zero_refusal-stated.ensures c.if-stated-ne-DONE.false in
-    let read : to_z w64 (of_z w64 a.probing.kind) ≡ a.probing.kind = search rules in
-    let k = kind_is a c.zero_kind_of-k.ensures read in
-    record { k_value = k; zero_arguments_passed = (p, found_small r a (found a r p k c.sizes_of-s.ensures)) }
+    let at = goal.at.put_zero_numbers-requires c in
+    record {
+      k_value = kind_found at.After-zero_kind_of-k;
+      zero_arguments_passed = (args_passed at.Else-stated-ne-DONE, found_small c.zero_records-r.result c.args.a (all_found at.After-sizes_of-s));
+    }
 
 pub zero_evaluation-requires : goal.zero_evaluation-requires
-zero_evaluation-requires c =
-    let a = c.args.a in
-    let r = c.zero_records-r.result in
-    let p = passed a c.zero_refusal-stated.ensures c.if-stated-ne-DONE.false in
-    let read : to_z w64 (of_z w64 a.probing.kind) ≡ a.probing.kind = search rules in
-    found_small r a (found a r p (kind_is a c.zero_kind_of-k.ensures read) c.sizes_of-s.ensures)
+zero_evaluation-requires c = found_small c.zero_records-r.result c.args.a (all_found (goal.at.zero_evaluation-requires c).After-sizes_of-s)
 
 pub returns : goal.returns
 returns c =
     let s = c.args in
     let a = s.a in
     let r = c.zero_records-r.result in
-    let p = passed a c.zero_refusal-stated.ensures c.if-stated-ne-DONE.false in
-    let read : to_z w64 (of_z w64 a.probing.kind) ≡ a.probing.kind = search rules in
-    let f = found a r p (kind_is a c.zero_kind_of-k.ensures read) c.sizes_of-s.ensures in
+    let f = all_found (goal.at.returns c).After-sizes_of-s in
     let sizes = f.sizes ∙ ap (λ (r : ZeroRecords). zero_sizes r a) c.zero_records-r.ensures in
     let z = none a c.zero_refusal-stated.ensures c.if-stated-ne-DONE.false in
     let e = refusal_is a r c.records_refusal-refusal.ensures c.zero_tests.ensures in
