@@ -1,4 +1,4 @@
-// The calls for C: each is the one of `boundary`, under its name.
+// The calls for C: each hands on to the call in place, on the area that the caller lends.
 #![tactic(auto)]
 
 ghost use Rattle.std.specs.Prelude.{◌≡◌};
@@ -8,19 +8,23 @@ ghost use Rattle.area.specs.Called.{unmeasured, called, fresh_called};
 ghost use Rattle.status_reading.specs.StatusRead.{status_called};
 ghost use Rattle.memory.specs.Saved.{saved_as, save_called};
 ghost use Rattle.measuring.specs.Reply.{reply, tool_exported, zero_exported};
-ghost use Rattle.lent_readings.specs.LentMeasured.{tool_readings_exported, zero_readings_exported};
+ghost use Rattle.lent_measuring.specs.LentMeasured.{tool_readings_exported, zero_readings_exported};
 ghost use Rattle.jobs.specs.Jobs.{job_left, job_called};
 
-use jobs::Ran;
+use calibrating::calibrate;
+use jobs::{Ran, run_job};
+use lent_measuring::{lent_tool, lent_tool_readings, lent_zero, lent_zero_readings, measure};
 use measuring::Decided;
+use package::arguments::{Calibration, Reading, Report};
 use package::records::Status;
+use package::refusals::refusal_in;
 
 // Writes the fresh package, every record 0.
 #[unsafe(no_mangle)]
 pub extern "C" fn mezhtolik_fresh(area: &mut [i32]) -> u32
     ensures { unmeasured result area.new ≡ fresh_called area.old }
 {
-    boundary::mezhtolik_fresh(area)
+    refusal_in(fresh_area::fresh(area))
 }
 
 // Replaces one empirical value.
@@ -28,7 +32,7 @@ pub extern "C" fn mezhtolik_fresh(area: &mut [i32]) -> u32
 pub extern "C" fn mezhtolik_set_empirical(area: &mut [i32], ev: i64, value: i64) -> u32
     ensures { unmeasured result area.new ≡ called area.old (set_empirical ev value) }
 {
-    boundary::mezhtolik_set_empirical(area, ev, value)
+    refusal_in(empirical_setting::set_empirical(area, ev, value))
 }
 
 // Replaces one tool's two wears.
@@ -36,7 +40,7 @@ pub extern "C" fn mezhtolik_set_empirical(area: &mut [i32], ev: i64, value: i64)
 pub extern "C" fn mezhtolik_set_wear(area: &mut [i32], tool: i64, radius: i64, length: i64) -> u32
     ensures { unmeasured result area.new ≡ called area.old (set_wear tool radius length) }
 {
-    boundary::mezhtolik_set_wear(area, tool, radius, length)
+    refusal_in(wear_setting::set_wear(area, tool, radius, length))
 }
 
 // Replaces one zero offset on its three axes.
@@ -50,7 +54,7 @@ pub extern "C" fn mezhtolik_set_offset(
 ) -> u32
     ensures { unmeasured result area.new ≡ called area.old (set_offset offset v1 v2 v3) }
 {
-    boundary::mezhtolik_set_offset(area, offset, v1, v2, v3)
+    refusal_in(zero_setting::set_offset(area, offset, v1, v2, v3))
 }
 
 // Calibrates one direction of a probe.
@@ -67,7 +71,16 @@ pub extern "C" fn mezhtolik_calibrate(
 ) -> u32
     ensures { unmeasured result area.new ≡ called area.old (calibrate (calibration probe axis direction setpoint raw tzl tsa)) }
 {
-    boundary::mezhtolik_calibrate(area, probe, axis, direction, setpoint, raw, tzl, tsa)
+    let a = Calibration {
+        probe,
+        axis,
+        direction,
+        setpoint,
+        raw,
+        tzl,
+        tsa,
+    };
+    refusal_in(calibrate(area, a))
 }
 
 // Calibrates one direction of a probe by a report.
@@ -87,7 +100,17 @@ pub extern "C" fn mezhtolik_calibrate_report(
     ensures { unmeasured result area.new
         ≡ called area.old (calibrate_reading (reported probe axis direction setpoint (record { x = x; y = y; z = z }) tzl tsa)) }
 {
-    boundary::mezhtolik_calibrate_report(area, probe, axis, direction, setpoint, x, y, z, tzl, tsa)
+    let report = Report { x, y, z };
+    let t = Calibration {
+        probe,
+        axis,
+        direction,
+        setpoint,
+        raw: Reading::Reported(report),
+        tzl,
+        tsa,
+    };
+    refusal_in(calibrate(area, t))
 }
 
 // The bits of a probe's status and the number of directions calibrated.
@@ -95,7 +118,7 @@ pub extern "C" fn mezhtolik_calibrate_report(
 pub extern "C" fn mezhtolik_probe_status(area: &[i32], probe: i64) -> Status
     ensures { result ≡ status_called area.now probe }
 {
-    boundary::mezhtolik_probe_status(area, probe)
+    status_reading::probe_status(area, probe).into()
 }
 
 // Measures with tool offset by 21 numbers and writes the 42 numbers that begin at place.
@@ -108,7 +131,7 @@ pub extern "C" fn mezhtolik_measure_tool(
 ) -> Decided
     ensures { reply result area.new results.new ≡ tool_exported area.old numbers.now results.old place }
 {
-    boundary::mezhtolik_measure_tool(area, numbers, results, place)
+    measure(area, lent_tool(numbers), results, place).into()
 }
 
 // Measures with zero offset by 13 numbers and writes the 42 numbers that begin at place.
@@ -121,11 +144,12 @@ pub extern "C" fn mezhtolik_measure_zero(
 ) -> Decided
     ensures { reply result area.new results.new ≡ zero_exported area.old numbers.now results.old place }
 {
-    boundary::mezhtolik_measure_zero(area, numbers, results, place)
+    measure(area, lent_zero(numbers), results, place).into()
 }
 
 // Measures with tool offset by 21 numbers and 12 floats, the raws that `reported` marks by their reports, and writes the 42 numbers that begin at place.
 #[unsafe(no_mangle)]
+#[tactic(auto, using(measuring::specs::ReplyLaws::exported_lent))]
 pub extern "C" fn mezhtolik_measure_tool_readings(
     area: &mut [i32],
     numbers: &[i64],
@@ -137,11 +161,13 @@ pub extern "C" fn mezhtolik_measure_tool_readings(
     ensures { reply result area.new results.new
         ≡ tool_readings_exported area.old numbers.now floats.now reported results.old place }
 {
-    boundary::mezhtolik_measure_tool_readings(area, numbers, floats, reported, results, place)
+    let m = lent_tool_readings(numbers, floats, reported);
+    measure(area, m, results, place).into()
 }
 
 // Measures with zero offset by 13 numbers and 12 floats, the raws that `reported` marks by their reports, and writes the 42 numbers that begin at place.
 #[unsafe(no_mangle)]
+#[tactic(auto, using(measuring::specs::ReplyLaws::exported_lent))]
 pub extern "C" fn mezhtolik_measure_zero_readings(
     area: &mut [i32],
     numbers: &[i64],
@@ -153,7 +179,8 @@ pub extern "C" fn mezhtolik_measure_zero_readings(
     ensures { reply result area.new results.new
         ≡ zero_readings_exported area.old numbers.now floats.now reported results.old place }
 {
-    boundary::mezhtolik_measure_zero_readings(area, numbers, floats, reported, results, place)
+    let m = lent_zero_readings(numbers, floats, reported);
+    measure(area, m, results, place).into()
 }
 
 // Replaces all empirical and mean values by those of a block of 80 bytes.
@@ -161,7 +188,7 @@ pub extern "C" fn mezhtolik_measure_zero_readings(
 pub extern "C" fn mezhtolik_load(area: &mut [i32], bytes: &[u8]) -> u32
     ensures { unmeasured result area.new ≡ called area.old (load bytes.now) }
 {
-    boundary::mezhtolik_load(area, bytes)
+    refusal_in(memory::load(area, bytes))
 }
 
 // Writes the block of all empirical and mean values to the first 80 bytes of the buffer.
@@ -169,7 +196,7 @@ pub extern "C" fn mezhtolik_load(area: &mut [i32], bytes: &[u8]) -> u32
 pub extern "C" fn mezhtolik_save(area: &[i32], buffer: &mut [u8]) -> u32
     ensures { saved_as result buffer.new ≡ save_called area.now buffer.old }
 {
-    boundary::mezhtolik_save(area, buffer)
+    refusal_in(memory::save(area, buffer))
 }
 
 // Runs a job and writes the answers of its lines to the front of the output.
@@ -178,5 +205,5 @@ pub extern "C" fn mezhtolik_run_job(area: &mut [i32], job: &[u8], output: &mut [
     ensures { job_left result.refusal result.length area.new output.new
         ≡ job_called area.old job.now output.old }
 {
-    boundary::mezhtolik_run_job(area, job, output)
+    run_job(area, job, output).into()
 }

@@ -1,8 +1,8 @@
-// The branch and its number. Document 01, 'Tolerance, mean, correction'.
+// The branch. Document 01, 'Tolerance, mean, correction'.
 #![tactic(auto)]
 
 ghost use Rattle.std.specs.Prelude.{◌≡◌, ◌≤◌, nat_abs};
-ghost use Rattle.rules.specs.Tool.{branch_of, branch_number};
+ghost use Rattle.rules.specs.Tool.{branch_of};
 
 use package::arguments::Limits;
 use package::found::Branch;
@@ -28,16 +28,4 @@ pub fn branch_of(l: Limits, named: bool, next: i64, d: i64) -> Branch
         return Branch::Two;
     }
     Branch::One
-}
-
-pub fn branch_number(b: Branch) -> u32
-    ensures { result ≡ branch_number b }
-{
-    match b {
-        Branch::One => 1,
-        Branch::Two => 2,
-        Branch::Three => 3,
-        Branch::Four => 4,
-        Branch::Five => 5,
-    }
 }

@@ -1,25 +1,28 @@
 -- A calibration in place: by the two numbers of its probe's record that it reads, and by the two that it writes.
-use Rattle.std.specs.Prelude.{◌≡◌, List, [], ◌∷◌, ◌++◌, ℕ, suc, ◌-◌, ◌≤◌, ◌<◌, ℤ, pos, length, get_or, set, take}
+use Rattle.std.specs.Prelude.{◌≡◌, true, List, [], ◌∷◌, ◌++◌, ℕ, suc, ◌-◌, ◌≤◌, ◌<◌, ℤ, pos, length, get_or, set, take, Result, Err}
 use Rattle.std.proofs.Math.Path.{refl}
 use Rattle.std.proofs.Common.{sym, ap, ◌∙◌, arith, length-set, drop_of_length-le, get_or-take}
 use Rattle.std.proofs.lemmas.List.{set_split}
 use Rattle.std.proofs.Math.Seq.{take-set-lt}
-use Rattle.package.specs.declared.arguments.Calibration.{Calibration}
+use Rattle.package.specs.declared.refusals.Refusal.{Refusal}
+use Rattle.package.specs.Refusals.{number, refusal_in}
+use Rattle.package.specs.RefusalLaws.{number_some}
+use Rattle.package.specs.Given.{Calibration, CalibrationReading}
 use Rattle.signed.specs.RangeLaws.{or_zero}
 use Rattle.rules.specs.Refusals.{first}
-use Rattle.rules.specs.RefusalLaws.{first_sooner}
+use Rattle.rules.specs.RefusalLaws.{test_passed, first_sooner}
+use Rattle.rules.specs.WholeReadings.{calibration_whole}
 use Rattle.rules.specs.Stores.{probes, at}
 use Rattle.rules.specs.Probes.{place_of}
-use Rattle.rules.specs.Calibration.{calibration_arguments, calibrated_with, calibrated_probe}
-use Rattle.rules.specs.Calls.{calibrate, rules}
-use Rattle.package.specs.declared.found.Calibrated.{Calibrated}
-use Rattle.calibration.specs.CalibratedLaws.{arguments, place_passed, direction_left, with_direction, probe_done, status_done}
+use Rattle.rules.specs.Calibration.{calibration_arguments, calibration_arguments_with, calibration_at, good_calibration, Calibrated, calibrated_with, calibrated_probe}
+use Rattle.rules.specs.Calls.{calibrate, calibrate_reading, rules}
+use Rattle.calibration.specs.CalibratedLaws.{arguments, place_passed, direction_left, with_direction, probe_done}
 use Rattle.layout.specs.Layout.{end, record_of, record_put}
 use Rattle.layout.specs.LayoutLaws.{record_number, number_again, number_back}
 use Rattle.area.specs.Table.{area_length, section_of, status_from, probe_from, record_from, held}
 use Rattle.area.specs.RecordLaws.{triggers_are, section_in, at_held}
 use Rattle.area.specs.Called.{unmeasured, called}
-use Rattle.area.specs.CalledLaws.{call_refused, call_done}
+use Rattle.area.specs.CalledLaws.{call_refused_by, call_done, same_called}
 
 -- the 7 numbers of a record with a trigger and a status replaced
 with_two : (zs : List ℤ) (at : ℕ) (t s : ℤ) → length zs ≡ 7 → at < 6 → set (set zs at t) 6 s ≡ set (take 6 zs) at t ++ (s ∷ [])
@@ -27,12 +30,26 @@ with_two zs at t s long low =
     let n = length-set zs at t in
     set_split (set zs at t) 6 s (omega arith) ∙ rw (take-set-lt 6 zs at t low, drop_of_length-le (set zs at t) {i = 7} (omega arith))
 
-module _ (area : List ℤ) (whole : length area ≡ area_length) (a : Calibration) where
-  pub arguments_refused : (n : ℕ) → n ≡ first (calibration_arguments a) → (n ≡ 0 → ⊥) → unmeasured n area ≡ called area (calibrate a)
-  arguments_refused n e z =
-      let some : n ≡ suc (n - 1) = omega (arith, z) in
-      call_refused area (calibrate a) whole (some ∙ sym (first_sooner (calibration_arguments a) _ (n - 1) (sym e ∙ some))) z
+module _ (area : List ℤ) (whole : length area ≡ area_length) where
+  -- what it is given is refused
+  pub given_refused : (t : CalibrationReading) (e : Refusal) → number e ≡ first (calibration_arguments_with (good_calibration t) (calibration_at t))
+      → {A : Type 0} {r : Result A Refusal} → r ≡ Err e → {after : List ℤ} → after ≡ area → unmeasured (refusal_in r) after ≡ called area (calibrate_reading t)
+  given_refused t e n q =
+      let some : number e ≡ suc (number e - 1) = let k = number_some e in omega (arith, k) in
+      call_refused_by area (calibrate_reading t) whole q
+      (some ∙ sym (first_sooner (calibration_arguments_with (good_calibration t) (calibration_at t)) _ (number e - 1) (sym n ∙ some)))
 
+good_of : (t : CalibrationReading) → 0 ≡ first (calibration_arguments_with (good_calibration t) (calibration_at t)) → good_calibration t ≡ true
+unfolding calibration_arguments_with
+good_of t e = test_passed 13 (calibration_arguments_with (good_calibration t) (calibration_at t)) tt (sym e)
+
+-- the calibration with the position that its raw gives, where that passed
+pub given_passed : (area : List ℤ) (t : CalibrationReading) → 0 ≡ first (calibration_arguments_with (good_calibration t) (calibration_at t))
+    → called area (calibrate (calibration_at t)) ≡ called area (calibrate_reading t)
+given_passed area t e = sym (same_called area (calibration_whole t (good_of t e)))
+
+-- ---- what passed
+module _ (area : List ℤ) (whole : length area ≡ area_length) (a : Calibration) where
   module _ (passed : first (calibration_arguments a) ≡ 0) (j : ℕ) (place_is : place_of a.axis a.direction ≡ suc j) where
     abbrev numbers : List ℤ
     numbers = record_of (section_of probes) area a.probe
@@ -63,11 +80,9 @@ module _ (area : List ℤ) (whole : length area ≡ area_length) (a : Calibratio
     unfolding calibrated_with
     refusal_is = refl
 
-    pub status_small : found.refusal ≡ 0 → found.status < 64
-    status_small e = rw found_is (status_done (at (held area) probes a.probe) a passed (ap (λ (c : Calibrated). c.refusal) (sym found_is) ∙ e))
-
-    pub found_refused : (found.refusal ≡ 0 → ⊥) → unmeasured found.refusal area ≡ called area (calibrate a)
-    found_refused z = call_refused area (calibrate a) whole (ap (λ (c : Calibrated). c.refusal) found_is ∙ refusal_is) z
+    pub found_refused : (e : Refusal) → number e ≡ found.refusal → {A : Type 0} {r : Result A Refusal} → r ≡ Err e
+        → unmeasured (refusal_in r) area ≡ called area (calibrate a)
+    found_refused e n q = call_refused_by area (calibrate a) whole q (n ∙ ap (λ (c : Calibrated). c.refusal) found_is ∙ refusal_is) refl
 
     -- what it writes
     by_found : found.refusal ≡ 0 → {once after : List ℤ} → once ≡ record_put (section_of probes) area a.probe (set numbers j found.trigger)

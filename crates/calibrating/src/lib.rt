@@ -2,63 +2,41 @@
 #![tactic(auto)]
 
 ghost use Rattle.std.specs.Prelude.{◌≡◌};
-ghost use Rattle.rules.specs.Calls.{calibrate};
+ghost use Rattle.package.specs.Given.{calibration_by};
+ghost use Rattle.package.specs.Refusals.{refusal_in};
+ghost use Rattle.rules.specs.Calls.{calibrate, calibrate_reading};
 ghost use Rattle.area.specs.Called.{unmeasured, called};
-ghost use Rattle.rules.specs.Calibration.{calibration};
 
-use area::{AREA, PROBES, WRONG_AREA, status_from};
+use area::{AREA, PROBES, status_from};
 use calibration::calibrate_direction;
-use calibration_tests::calibration_refusal;
+use calibration_tests::passed::PassedCalibration;
+use calibration_tests::passed_calibration;
+use floats::Raw;
 use layout::{number_at, put_number};
 use package::arguments::Calibration;
-use package::refusals::DONE;
-use probes::place_of;
+use package::refusals::Refusal;
+use probes::place_on;
 
-// Calibrates one direction of a probe.
-fn calibrate(area: &mut [i32], a: Calibration) -> u32
-    ensures { unmeasured result area.new ≡ called area.old (calibrate a) }
+// Calibrates the direction, where nothing that it is given refuses it.
+fn calibrate_passed(area: &mut [i32; AREA], p: PassedCalibration) -> Result<(), Refusal>
+    ensures { unmeasured (refusal_in result) area.new ≡ called area.old (calibrate p.given) }
 {
-    if area.len() != AREA {
-        return WRONG_AREA;
-    }
-    let refusal = calibration_refusal(a);
-    if refusal != DONE {
-        return refusal;
-    }
-    let probe = a.probe;
-    let place = place_of(a.axis, a.direction);
-    let trigger = number_at(&area[..], PROBES, probe, place - 1);
+    let probe = p.given.probe;
+    let at = place_on(p.way) - 1;
+    let trigger = number_at(&area[..], PROBES, probe, at);
     let status = status_from(number_at(&area[..], PROBES, probe, 6));
-    let c = calibrate_direction(trigger, status, place, a);
-    if c.refusal != DONE {
-        return c.refusal;
-    }
-    put_number(area, PROBES, probe, place - 1, c.trigger);
-    put_number(area, PROBES, probe, 6, c.status as i32);
-    DONE
+    let c = calibrate_direction(trigger, status, p)?;
+    put_number(area, PROBES, probe, at, c.trigger);
+    put_number(area, PROBES, probe, 6, i32::from(c.status));
+    Ok(())
 }
 
-// Calibrates one direction of a probe, by numbers: so a caller that has them makes no struct.
-pub fn calibrate_by(
-    area: &mut [i32],
-    probe: i64,
-    axis: i64,
-    direction: i64,
-    setpoint: i64,
-    raw: i64,
-    tzl: i64,
-    tsa: i64,
-) -> u32
-    ensures { unmeasured result area.new ≡ called area.old (calibrate (calibration probe axis direction setpoint raw tzl tsa)) }
+// Calibrates one direction of a probe, by a whole position or a reading.
+pub fn calibrate<T: Raw>(area: &mut [i32], a: Calibration<T>) -> Result<(), Refusal>
+    ensures { unmeasured (refusal_in result) area.new ≡ called area.old (calibrate_reading (calibration_by T.reading a)) }
 {
-    let a = Calibration {
-        probe,
-        axis,
-        direction,
-        setpoint,
-        raw,
-        tzl,
-        tsa,
+    let Some(whole) = area.as_mut_array::<AREA>() else {
+        return Err(Refusal::WrongArea);
     };
-    calibrate(area, a)
+    calibrate_passed(whole, passed_calibration(a)?)
 }

@@ -1,68 +1,57 @@
 // The calibration of one direction of a probe. Document 01, 'Calibration'.
 #![tactic(auto)]
 
-ghost use Rattle.std.specs.Prelude.{◌≡◌, true, ◌≤◌, ◌%◌};
-ghost use Rattle.rules.specs.Refusals.{first};
-ghost use Rattle.rules.specs.Probes.{place_of, mark};
-ghost use Rattle.rules.specs.Calibration.{new_trigger, calibration_arguments, calibration_positions, calibrated_with};
+ghost use Rattle.std.specs.Prelude.{◌≡◌, ◌≤◌, ◌%◌};
+ghost use Rattle.rules.specs.Probes.{mark};
+ghost use Rattle.rules.specs.Calibration.{new_trigger, calibrated_with};
+ghost use Rattle.calibration.specs.Left.{left_by};
 
-use package::arguments::Calibration;
-use package::found::Calibrated;
+use calibration_tests::passed::PassedCalibration;
 use package::limits::TRIGGER_LIMIT;
-use package::refusals::{BEYOND_TSA, DONE, LEAVES_RANGE};
-use probes::{read_trigger, sign_of};
+use package::refusals::Refusal;
+use probes::{place_on, read_trigger, sign_in};
 use signed::{in_range, magnitude};
 
+// What a calibration leaves of its direction's trigger and its probe's status.
+#[derive(Clone, Copy)]
+pub struct Calibrated {
+    pub trigger: i32,
+    pub status: u8,
+}
+
 // The six low bits of a status with the bit of a place 1..6 set.
-fn mark_place(status: u8, place: usize) -> u32
+fn mark_place(status: u8, place: usize) -> u8
     requires { (1 ≤ place) × (place ≤ 6) }
     ensures { result ≡ mark (status % 64) place }
 {
-    let low = (status % 64) as u32;
+    let low = status % 64;
     low | (1 << (place - 1))
 }
 
 // The new trigger t.
-fn new_trigger(a: Calibration) -> i64
-    requires { calibration_positions a ≡ true }
-    ensures { result ≡ new_trigger a }
+fn new_trigger(p: PassedCalibration) -> i64
+    ensures { result ≡ new_trigger p.given }
 {
-    sign_of(a.direction) * (a.setpoint - a.raw)
+    sign_in(p.way.direction) * (p.given.setpoint - p.given.raw)
 }
 
-// Calibrates the direction of a place by arguments that passed. No call of a user.
-pub fn calibrate_direction(trigger: i32, status: u8, place: usize, a: Calibration) -> Calibrated
-    requires a_value { first (calibration_arguments a) ≡ 0 }
-    requires place_value { place ≡ place_of a.axis a.direction }
-    ensures { result ≡ calibrated_with trigger status a }
+// Calibrates the direction of a trigger, of a probe with a status.
+pub fn calibrate_direction(
+    trigger: i32,
+    status: u8,
+    p: PassedCalibration,
+) -> Result<Calibrated, Refusal>
+    ensures { left_by trigger status result ≡ calibrated_with trigger status p.given }
 {
-    let t = new_trigger(a);
+    let t = new_trigger(p);
     let d = magnitude(t - read_trigger(trigger));
-    if a.tsa < d {
-        return Calibrated {
-            trigger,
-            status: status as u32,
-            refusal: BEYOND_TSA,
-        };
+    if p.given.tsa < d {
+        return Err(Refusal::BeyondTsa);
     }
     if !in_range(t, -TRIGGER_LIMIT, TRIGGER_LIMIT) {
-        return Calibrated {
-            trigger,
-            status: status as u32,
-            refusal: LEAVES_RANGE,
-        };
+        return Err(Refusal::LeavesRange);
     }
-    let marked = mark_place(status, place);
-    if a.tzl < d {
-        return Calibrated {
-            trigger: t as i32,
-            status: marked,
-            refusal: DONE,
-        };
-    }
-    Calibrated {
-        trigger,
-        status: marked,
-        refusal: DONE,
-    }
+    let status = mark_place(status, place_on(p.way));
+    let trigger = if p.given.tzl < d { t as i32 } else { trigger };
+    Ok(Calibrated { trigger, status })
 }

@@ -7,7 +7,8 @@ ghost use Rattle.decimals.specs.Decimals.{decimal, signed_decimal};
 
 use text::{MINUS, NOUGHT};
 
-// Writes a byte at a place; answers the place behind it. No call of a user.
+// Writes a byte at a place; answers the place behind it. A place stands beside the buffer here and below: were each text written to the front of a slice, a caller
+// would slice again before each and add up the lengths. No call of a user.
 pub fn put_byte(out: &mut [u8], at: usize, b: u8) -> usize
     requires { at + 1 ≤ length out.old }
     ensures { (result ≡ at + 1) × (out.new ≡ written out.old at (b ∷ [])) }
@@ -20,13 +21,7 @@ pub fn put_byte(out: &mut [u8], at: usize, b: u8) -> usize
 fn digit_count(n: u32) -> usize
     ensures { result ≡ length (decimal n) }
 {
-    let mut count: usize = 1;
-    let mut m = n;
-    while 9 < m {
-        m /= 10;
-        count += 1;
-    }
-    count
+    n.max(1).ilog10() as usize + 1
 }
 
 // Writes a number from a place on, its last digit first; answers the place behind it. No call of a user.
@@ -36,9 +31,7 @@ pub fn put_whole(out: &mut [u8], at: usize, n: u32) -> usize
 {
     let end = at + digit_count(n);
     let mut m = n;
-    let mut k = end;
-    while 9 < m {
-        k -= 1;
+    for k in (at + 1..end).rev() {
         out[k] = NOUGHT + (m % 10) as u8;
         m /= 10;
     }
@@ -53,7 +46,7 @@ pub fn put_number(out: &mut [u8], at: usize, z: i32) -> usize
 {
     if z < 0 {
         let k = put_byte(out, at, MINUS);
-        return put_whole(out, k, (0 - (z as i64)) as u32);
+        return put_whole(out, k, z.unsigned_abs());
     }
-    put_whole(out, at, z as u32)
+    put_whole(out, at, z.unsigned_abs())
 }

@@ -1,20 +1,12 @@
 // The decision in a branch: correction and mean. Document 01, 'Tolerance, mean, correction'.
 #![tactic(auto)]
 
-ghost use Rattle.std.specs.Prelude.{◌≡◌, ◌≤◌, ◌-◌, get_or, pos, nat_abs};
-ghost use Rattle.rules.specs.Tool.{branch_number, decided_by};
+ghost use Rattle.std.specs.Prelude.{◌≡◌, ◌≤◌, nat_abs};
+ghost use Rattle.rules.specs.Tool.{decided_by};
 
-use branches::{branch_number, branch_of};
+use branches::branch_of;
 use package::arguments::Limits;
 use package::found::{Branch, Decision};
-
-// The value for a branch, of the values for branches 1 to 5.
-fn in_branch(b: Branch, values: [i64; 5]) -> i64
-    ensures { result ≡ get_or values (branch_number b - 1) (pos 0) }
-{
-    let place = branch_number(b) as usize - 1;
-    values[place]
-}
 
 // The decision, of the old mean, what its new value would be, and D. No call of a user.
 pub fn decide(l: Limits, named: bool, old: i64, next: i64, d: i64) -> Decision
@@ -22,9 +14,16 @@ pub fn decide(l: Limits, named: bool, old: i64, next: i64, d: i64) -> Decision
     ensures { result ≡ decided_by l named old next d }
 {
     let branch = branch_of(l, named, next, d);
+    let (correction, mean) = match branch {
+        Branch::One => (0, old),
+        Branch::Two => (d, old),
+        Branch::Three => (0, next),
+        Branch::Four => (next, 0),
+        Branch::Five => (d, 0),
+    };
     Decision {
         branch,
-        correction: in_branch(branch, [0, d, 0, next, d]),
-        mean: in_branch(branch, [old, old, next, 0, 0]),
+        correction,
+        mean,
     }
 }

@@ -1,30 +1,42 @@
 // An empirical value set, in place on the area that the caller lends. Document 01, 'Units and stores'.
 #![tactic(auto)]
 
-ghost use Rattle.std.specs.Prelude.{◌≡◌};
+ghost use Rattle.std.specs.Prelude.{◌≡◌, IfOk};
+ghost use Rattle.package.specs.Refusals.{refusal_in};
+ghost use Rattle.rules.specs.Refusals.{first};
+ghost use Rattle.rules.specs.Settings.{empirical_rules};
 ghost use Rattle.rules.specs.Calls.{set_empirical};
 ghost use Rattle.area.specs.Called.{unmeasured, called};
 
-use area::{AREA, EMPIRICALS, WRONG_AREA};
+use area::{AREA, EMPIRICALS};
 use layout::put_record;
 use package::limits::{VALUE_COUNT, VALUE_GREATEST, VALUE_LEAST};
-use package::refusals::{DONE, NO_SUCH_NUMBER, OUTSIDE_RANGE};
+use package::refusals::Refusal;
 use signed::in_range;
 
-// Replaces one empirical value.
-pub fn set_empirical(area: &mut [i32], ev: i64, value: i64) -> u32
-    ensures { unmeasured result area.new ≡ called area.old (set_empirical ev value) }
+// An empirical value that may be set, as the area holds it.
+fn passed_empirical(ev: i64, value: i64) -> Result<i32, Refusal>
+    ensures number { refusal_in result ≡ first (empirical_rules ev value) }
+    ensures kept { IfOk result (λ v. v ≡ value) }
 {
-    if area.len() != AREA {
-        return WRONG_AREA;
-    }
     if !in_range(ev, 1, VALUE_COUNT) {
-        return NO_SUCH_NUMBER;
+        return Err(Refusal::NoSuchNumber);
     }
     if !in_range(value, VALUE_LEAST, VALUE_GREATEST) {
-        return OUTSIDE_RANGE;
+        return Err(Refusal::OutsideRange);
     }
-    let numbers = [value as i32];
-    put_record(area, EMPIRICALS, ev, &numbers);
-    DONE
+    Ok(value as i32)
+}
+
+// Replaces one empirical value.
+#[tactic(auto, using(area::specs::CalledLaws::call_wrong))]
+pub fn set_empirical(area: &mut [i32], ev: i64, value: i64) -> Result<(), Refusal>
+    ensures { unmeasured (refusal_in result) area.new ≡ called area.old (set_empirical ev value) }
+{
+    let Some(whole) = area.as_mut_array::<AREA>() else {
+        return Err(Refusal::WrongArea);
+    };
+    let stored = passed_empirical(ev, value)?;
+    put_record(whole, EMPIRICALS, ev, &[stored]);
+    Ok(())
 }

@@ -1,25 +1,26 @@
 -- The units of a float by its bits: of equal fractions, of the exponent's field and the digits, and of the bits with no sign.
 use mathlib.Core.Path.{◌≡◌, refl, ap, sym, ◌∙◌, subst}
-use mathlib.Core.Bool.{Bool, true, false, cond, not}
+use mathlib.Core.Bool.{Bool, true, false, cond}
 use Prim.Native.Nat.{ℕ, zero, suc, ◌+◌, ◌-◌, ◌*◌, ◌/◌, ◌%◌, ◌^◌, ◌<◌, ◌≤◌}
 use native.Mathlib.Nat.{mul_assoc, mul_comm, add-mul, mul-le-mul, mul-le-mul_right, mul-div-mul_right, le_of_mul-le-mul_right, lt_of_not-le, div-eq_of_lt, add-div_right, div-div-eq-div-mul}
 use native.Mathlib.Omega.{arith}
 use borrow.Author.Tests.{lt-ltb, lt-leb, le-leb, leb-true, leb-false, ne_eqb}
 use lib.Dec.{leb, eqb, T}
-use lib.IntN.{pos, negsuc, ◌-ℤ◌}
+use lib.IntN.{ℤ, pos, negsuc, ◌-ℤ◌}
+use Rattle.std.specs.Prelude.{Option, Some, None}
+use Rattle.std.specs.Bool.{then_some}
 use lib.Pow.{pow-add, pow_pos, pow_mono}
-use lib.Ieee.{Float, nan, inf, fin, up, down, odd, of_fields, of_bits, ne, is_nan, binary32}
+use lib.Ieee.{Float, nan, inf, fin, up, down, odd, of_fields, of_bits, is_nan, binary32}
 use lib.Ieee.Exact.{HasValue, odd_sign}
 use lib.Ieee.Fits.{down_pos}
 use Rattle.signed.specs.Ranges.{minus}
 use Rattle.signed.specs.Rounding.{halves_up}
 use Rattle.rules.specs.Readings.{good_float, units_of, signed}
-use Rattle.floats.specs.declared.Units.{Units}
-use Rattle.floats.specs.Units.{units, units_if, units_in}
+use Rattle.floats.specs.Units.{units_in}
 
 -- the units of a / b mm with a sign
-abbrev pub fraction : Bool → ℕ → ℕ → Units
-fraction s a b = units_if (leb a (1000 * b)) (signed s (halves_up (10000 * a) b))
+abbrev pub fraction : Bool → ℕ → ℕ → Option ℤ
+fraction s a b = then_some (leb a (1000 * b)) (signed s (halves_up (10000 * a) b))
 
 -- ---- equal fractions have equal units
 module _ (p q a b : ℕ) (hq : 0 < q) (hb : 0 < b) (e : p * b ≡ a * q) where
@@ -94,7 +95,7 @@ module _ (s : Bool) (t : ℕ) where
       (units_odd s (8388608 + t) k
       ∙ same_units ((8388608 + t) * 2 ^ k) (2 ^ 149) (8388608 + t) (2 ^ (150 - suc k)) (pow_pos 149) (pow_pos (150 - suc k)) f s)
 
-  beyond : (x : ℕ) → 150 ≤ x → units_in (of_fields binary32 s x t) ≡ units false (pos 0)
+  beyond : (x : ℕ) → 150 ≤ x → units_in (of_fields binary32 s x t) ≡ None
   unfolding of_fields good_float
   beyond zero h = absurd (omega arith)
   beyond (suc k) h = go (eqb (suc k) 255) (eqb t 0)
@@ -104,7 +105,7 @@ module _ (s : Bool) (t : ℕ) where
           over_thousand (2 ^ 149) ((8388608 + t) * 2 ^ k) (pow_pos 149)
           (mul-le-mul {n₁ = 8388608} {m₁ = 2 ^ 149} {n₂ = 8388608 + t} {m₂ = 2 ^ k} (omega arith) (pow_mono {i = 149} {j = k} (omega arith)))
 
-      go : (u v : Bool) → units_in (cond u (cond v (inf s) nan) (odd 24 s (8388608 + t) k 149)) ≡ units false (pos 0)
+      go : (u v : Bool) → units_in (cond u (cond v (inf s) nan) (odd 24 s (8388608 + t) k 149)) ≡ None
       go true true = refl
       go true false = refl
       go false v = units_odd s (8388608 + t) k ∙ rw (lt-leb ((8388608 + t) * 2 ^ k) (1000 * 2 ^ 149) big)
@@ -113,7 +114,7 @@ module _ (s : Bool) (t : ℕ) where
   nothing true = refl
   nothing false = refl
 
-  small : (q k : ℕ) → q < 2 ^ 24 → k ≤ 108 → units_in (odd 24 s q k 149) ≡ units true (pos 0)
+  small : (q k : ℕ) → q < 2 ^ 24 → k ≤ 108 → units_in (odd 24 s q k 149) ≡ Some (pos 0)
   unfolding halves_up
   small q k hq hk =
       let m : q * 2 ^ k ≤ 2 ^ 24 * 2 ^ 108 =
@@ -123,7 +124,7 @@ module _ (s : Bool) (t : ℕ) where
       let z : (2 * (10000 * (q * 2 ^ k)) + 2 ^ 149) / (2 * 2 ^ 149) ≡ 0 = div-eq_of_lt b.1 in
       units_odd s q k ∙ rw (l, z, nothing s)
 
-  tiny : (x : ℕ) → x < 110 → t < 8388608 → units_in (of_fields binary32 s x t) ≡ units true (pos 0)
+  tiny : (x : ℕ) → x < 110 → t < 8388608 → units_in (of_fields binary32 s x t) ≡ Some (pos 0)
   unfolding of_fields
   tiny zero h l = small t 0 (omega arith) (omega arith)
   tiny (suc k) h l = rw (ne_eqb (suc k) 255 (λ e. omega arith)) (small (8388608 + t) k (omega arith) (omega arith))
@@ -165,24 +166,24 @@ module _ (b : ℕ) where
   unfolding of_bits
   fields = let d : b % 8388608 ≡ rest % 8388608 = omega arith in rw d
 
-  by_fields : {u : Units} → units_in (of_fields binary32 sign (rest / 8388608) (rest % 8388608)) ≡ u → units_in (of_bits binary32 b) ≡ u
+  by_fields : {u : Option ℤ} → units_in (of_fields binary32 sign (rest / 8388608) (rest % 8388608)) ≡ u → units_in (of_bits binary32 b) ≡ u
   by_fields e = ap units_in fields ∙ e
 
-  pub refused : 1148846080 < rest → units_in (of_bits binary32 b) ≡ units false (pos 0)
+  pub refused : 1148846080 < rest → units_in (of_bits binary32 b) ≡ None
   refused h = by_fields (go (leb 150 (rest / 8388608)) refl)
     where
-      go : (t : Bool) → leb 150 (rest / 8388608) ≡ t → units_in (of_fields binary32 sign (rest / 8388608) (rest % 8388608)) ≡ units false (pos 0)
+      go : (t : Bool) → leb 150 (rest / 8388608) ≡ t → units_in (of_fields binary32 sign (rest / 8388608) (rest % 8388608)) ≡ None
       go true e = beyond sign (rest % 8388608) (rest / 8388608) (leb-true 150 (rest / 8388608) e)
       go false e =
           let l = leb-false 150 (rest / 8388608) e in
           normal sign (rest % 8388608) (rest / 8388608) (omega arith) (omega arith)
           ∙ rw (lt-leb (digits rest) (1000 * power rest) (above_metre rest h))
 
-  pub below_half : rest < 922746880 → units_in (of_bits binary32 b) ≡ units true (pos 0)
+  pub below_half : rest < 922746880 → units_in (of_bits binary32 b) ≡ Some (pos 0)
   below_half h = by_fields (tiny sign (rest % 8388608) (rest / 8388608) (omega arith) (omega arith))
 
   pub counted : rest ≤ 1148846080 → 922746880 ≤ rest
-      → units_in (of_bits binary32 b) ≡ units true (signed sign (halves_up (10000 * digits rest) (power rest)))
+      → units_in (of_bits binary32 b) ≡ Some (signed sign (halves_up (10000 * digits rest) (power rest)))
   counted h l =
       by_fields
       (normal sign (rest % 8388608) (rest / 8388608) (omega arith) (omega arith)
@@ -204,12 +205,6 @@ less_than_0 (suc n) = rw (lt-ltb 0 (suc n) (omega arith)) (ap negsuc (take_one n
     take_one n = omega arith
 
 -- ---- not a number
-pub number : (x : Float) → ne x x ≡ false → T (not (is_nan x))
-unfolding ne is_nan
-number nan e = absurd (subst T e tt)
-number (inf s) e = tt
-number (fin s m x) e = tt
-
 pub is_nan_lem : (v : Float) → is_nan v ≡ true → v ≡ nan
 unfolding is_nan
 is_nan_lem nan e = refl

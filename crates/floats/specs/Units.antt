@@ -1,17 +1,17 @@
--- A position with whether it is good, of a float and of a reading: 0 where it is not.
-use Rattle.std.specs.Prelude.{Bool, cond, Float, ℤ, pos}
+-- The position of a float and of a reading, and the positions of a measurement; none where a used float is not good.
+use Rattle.std.specs.Prelude.{Bool, Float, ℤ, Option}
+use Rattle.std.specs.Bool.{then_some}
+use Rattle.package.specs.Given.{Raws, Readings}
+use Rattle.package.specs.declared.arguments.Probing.{Probing}
 use Rattle.package.specs.declared.arguments.Reading.{Reading}
-use Rattle.rules.specs.Readings.{good_float, units_of, good_if, position_if}
-use Rattle.floats.specs.declared.Units.{Units}
+use Rattle.package.specs.declared.found.Kind.{Kind}
+use Rattle.rules.specs.Readings.{good_float, units_of, good_if, position_if, readings_ok, raws_of}
 
-abbrev pub units : Bool → ℤ → Units
-units good z = record { good = good; position = z }
+abbrev pub units_in : Float → Option ℤ
+units_in x = then_some (good_float x) (units_of x)
 
-abbrev pub units_if : Bool → ℤ → Units
-units_if good z = units good (cond good z (pos 0))
+abbrev pub reading_in : Bool → Reading → ℤ → Option ℤ
+reading_in used r n = then_some (good_if used r n) (position_if used r n)
 
-abbrev pub units_in : Float → Units
-units_in x = units_if (good_float x) (units_of x)
-
-abbrev pub reading_in : Bool → Reading → ℤ → Units
-reading_in used r n = units_if (good_if used r n) (position_if used r n)
+abbrev pub readings_in : Kind → Probing → Readings → Option Raws
+readings_in k a q = then_some (readings_ok k a q) (raws_of k a q)

@@ -2,30 +2,27 @@
 #![tactic(auto)]
 
 ghost use Rattle.std.specs.Prelude.{◌≡◌};
-ghost use Rattle.rules.specs.Tool.{tool_kind_of, found_tests};
-ghost use Rattle.evaluation.specs.FoundSmall.{FoundSmall};
+ghost use Rattle.rules.specs.Tool.{found_tests};
 
-use package::arguments::ToolMeasurement;
-use package::found::{Found, Kind, Tests};
+use evaluation::FoundTool;
+use package::found::Tests;
 use package::limits::WEAR_LIMIT;
-use record_tests::widths_ok;
+use record_tests::wide;
 use signed::{in_range, magnitude};
+use tool_refusals::PassedTool;
 
-// What of the records allows the measurement. No call of a user.
-pub fn tool_tests(k: Kind, a: ToolMeasurement, f: Found) -> Tests
-    requires k_value { k ≡ tool_kind_of a }
-    requires found_small { FoundSmall f }
-    ensures { result ≡ found_tests a f }
+// What of the records allows the measurement.
+pub fn tests_of(p: PassedTool, f: FoundTool) -> Tests
+    ensures { result ≡ found_tests p.given f.found }
 {
-    let probing = a.probing;
-    let sizes = f.sizes;
-    let limits = a.limits;
-    let far = magnitude(f.deviation);
+    let limits = p.given.limits;
+    let found = f.found;
+    let far = magnitude(found.deviation);
     Tests {
-        calibrated: f.calibrated,
-        pairs: widths_ok(k, probing, sizes),
+        calibrated: found.calibrated,
+        pairs: wide(p.probed(), found.sizes),
         tsa: far <= limits.tsa,
         tdif: far <= limits.tdif,
-        range: in_range(f.wear, -WEAR_LIMIT, WEAR_LIMIT),
+        range: in_range(found.wear, -WEAR_LIMIT, WEAR_LIMIT),
     }
 }

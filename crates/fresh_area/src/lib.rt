@@ -2,20 +2,20 @@
 #![tactic(auto)]
 
 ghost use Rattle.std.specs.Prelude.{◌≡◌};
+ghost use Rattle.package.specs.Refusals.{refusal_in};
 ghost use Rattle.area.specs.Called.{unmeasured, fresh_called};
 
-use area::{AREA, WRONG_AREA};
-use layout::write_numbers;
-use package::refusals::DONE;
+use area::AREA;
+use package::refusals::Refusal;
 
 // Writes the fresh package, every record 0.
-pub fn fresh(area: &mut [i32]) -> u32
-    ensures { unmeasured result area.new ≡ fresh_called area.old }
+#[tactic(auto, using(area::specs::CalledLaws::fresh_wrong, area::specs::CalledLaws::fresh_done))]
+pub fn fresh(area: &mut [i32]) -> Result<(), Refusal>
+    ensures { unmeasured (refusal_in result) area.new ≡ fresh_called area.old }
 {
-    if area.len() != AREA {
-        return WRONG_AREA;
-    }
-    let zeros = [0i32; AREA];
-    write_numbers(area, 0, &zeros);
-    DONE
+    let Some(whole) = area.as_mut_array::<AREA>() else {
+        return Err(Refusal::WrongArea);
+    };
+    *whole = [0; AREA];
+    Ok(())
 }

@@ -8,11 +8,9 @@ use Rattle.std.proofs.Math.Dec.{eqb}
 use Rattle.std.proofs.Math.ListN.{length}
 use Rattle.text.specs.Pieces.{comma, cut}
 use Rattle.text.specs.PieceLaws.{cut_first}
-use Rattle.package.specs.declared.arguments.Raws.{Raws}
+use Rattle.package.specs.Given.{Raws, ToolMeasurement, ToolReadings}
 use Rattle.package.specs.declared.arguments.Report.{Report}
 use Rattle.package.specs.declared.arguments.Reading.TheVariants.{Reported}
-use Rattle.package.specs.declared.arguments.ToolMeasurement.{ToolMeasurement}
-use Rattle.package.specs.declared.arguments.ToolReadings.{ToolReadings}
 use Rattle.rules.specs.Stores.{Package}
 use Rattle.rules.specs.Kinds.{tool_kind_number, tool_kind}
 use Rattle.rules.specs.Measuring.{lent}

@@ -2,9 +2,7 @@
 use Rattle.std.specs.Prelude.{◌≡◌, true, cond, List, [], ◌∷◌, ℕ, ◌+◌, ◌-◌, ℤ, pos, get_or, drop}
 use Rattle.text.specs.Pieces.{comma, cut}
 use Rattle.decimals.specs.Decimals.{signed_decimal}
-use Rattle.package.specs.declared.arguments.Raws.{Raws}
-use Rattle.package.specs.declared.arguments.ToolMeasurement.{ToolMeasurement}
-use Rattle.package.specs.declared.arguments.ToolReadings.{ToolReadings}
+use Rattle.package.specs.Given.{Raws, ToolMeasurement, ToolReadings}
 use Rattle.rules.specs.Stores.{Package}
 use Rattle.rules.specs.Kinds.{tool_kind_number}
 use Rattle.rules.specs.Measuring.{lent}

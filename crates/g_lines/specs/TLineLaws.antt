@@ -10,7 +10,7 @@ use Rattle.text.specs.Numbers.{Number, Value, Malformed, number_of}
 use Rattle.hexadecimal.specs.Hexadecimal.{hex_of}
 use Rattle.decimals.specs.Decimals.{signed_decimal}
 use Rattle.decimals.specs.ReadBackLaws.{read_back, bytes_from}
-use Rattle.package.specs.declared.arguments.Raws.{Raws}
+use Rattle.package.specs.Given.{Raws}
 use Rattle.job_text.specs.Letters.{letter_g, raw, form_of}
 use Rattle.job_text.specs.Lines.{Numbers, none, all, first, numbers_of}
 use Rattle.g_lines.specs.JoinedLaws.{Without}

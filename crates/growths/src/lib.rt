@@ -2,51 +2,46 @@
 #![tactic(auto)]
 
 ghost use Rattle.std.specs.Prelude.{◌≡◌, ◌≤◌, nat_abs};
+ghost use Rattle.package.specs.Ways.{axis_number};
 ghost use Rattle.rules.specs.Sizes.{pair_in};
 ghost use Rattle.rules.specs.Zero.{corrects, growth};
-ghost use Rattle.sizes.specs.SizeLaws.{SizesSmall};
 
 use evaluation::difference_of;
-use package::arguments::Probing;
-use package::found::{Form, Kind, Sizes};
-use signed::same;
+use kind_tests::Probed;
+use package::found::{Form, Sizes};
+use package::ways::Axis;
+use sizes::MeasuredSizes;
 
-// Whether the offset's axis n is corrected.
-fn corrects_on(k: Kind, a: Probing, n: i64) -> bool
-    ensures { result ≡ corrects k a n }
+// Whether the offset's axis is corrected.
+fn corrects_on(p: Probed, axis: Axis) -> bool
+    ensures { result ≡ corrects p.kind p.probing (axis_number axis) }
 {
-    let form = k.form;
-    match form {
-        Form::Double => same(1, n) | same(2, n),
-        _ => same(a.axis, n),
+    match p.kind.form {
+        Form::Double => (axis == Axis::First) | (axis == Axis::Second),
+        _ => p.probing.axis == axis as i64,
     }
 }
 
-// The shift of the pair on axis n, 0 where none is measured.
-fn shift_on(s: Sizes, n: i64) -> i64
-    ensures { result ≡ (pair_in s n).shift }
+// The shift of the pair on an axis, 0 where none is measured.
+fn shift_on(s: Sizes, axis: Axis) -> i64
+    ensures { result ≡ (pair_in s (axis_number axis)).shift }
 {
-    match n {
-        1 => s.abscissa.shift,
-        2 => s.ordinate.shift,
-        _ => 0,
+    match axis {
+        Axis::First => s.abscissa.shift,
+        Axis::Second => s.ordinate.shift,
+        Axis::Third => 0,
     }
 }
 
-// The h by which axis n of the offset grows: a plane's by twice its deviation, a pair's by its shift. No call of a user.
-pub fn growth_of(k: Kind, a: Probing, s: Sizes, n: i64) -> i64
-    requires { SizesSmall s }
-    ensures { (result ≡ growth k a s n) × (nat_abs result ≤ 100000000) }
+// The h by which an axis of the offset grows: a plane's by twice its deviation, a pair's by its shift.
+pub fn growth_of(p: Probed, s: MeasuredSizes, axis: Axis) -> i64
+    ensures { (result ≡ growth p.kind p.probing s.sizes (axis_number axis)) × (nat_abs result ≤ 100000000) }
 {
-    if !corrects_on(k, a, n) {
+    if !corrects_on(p, axis) {
         return 0;
     }
-    let form = k.form;
-    match form {
-        Form::Plane => {
-            let held = s.held;
-            2 * difference_of(held, 0)
-        }
-        _ => shift_on(s, n),
+    match p.kind.form {
+        Form::Plane => 2 * difference_of(s.sizes.held, 0),
+        _ => shift_on(s.sizes, axis),
     }
 }

@@ -1,16 +1,15 @@
 -- The first eight bytes of a text one after the other, and what they tell of its first field.
-use Rattle.std.proofs.Common.{◌≡◌, ℕ, ◌+◌, ◌-◌, ◌*◌, ◌^◌, ◌<◌, ◌≤◌, Bool, true, false, cond, ◌&&◌, eqb, ltb, leb, List, length, get_or, take, drop, pos, sym, refl, ap, ◌∙◌, add-one, arith, drop_of_length-le, length-take-le, drop-cons, get_or-take, take-take, le-ltb, lt-ltb, eq-eqb, ne_eqb, le-leb}
+use Rattle.std.proofs.Common.{◌≡◌, ℕ, ◌+◌, ◌-◌, ◌*◌, ◌^◌, ◌<◌, ◌≤◌, Bool, true, false, cond, ◌&&◌, eqb, ltb, leb, None, List, length, get_or, take, drop, pos, sym, refl, ap, ◌∙◌, add-one, arith, drop_of_length-le, length-take-le, drop-cons, get_or-take, take-take, le-ltb, lt-ltb, eq-eqb, ne_eqb, le-leb}
 use mathlib.Core.Bool.{and-true}
 use native.Mathlib.Nat.{pow-succ'}
 use native.Mathlib.Decide.{ℕ_discrete, dec_le}
 use borrow.Author.Tests.{lt-leb}
 use Rattle.lists.specs.Each.{every, every_each, each_at}
-use Rattle.text.specs.declared.Field.TheVariants.{Read, Wrong}
 use Rattle.text.specs.Pieces.{comma, line_feed, line, HasLine, field}
 use Rattle.text.specs.PieceLaws.{up_le, up_take, field_within}
 use Rattle.text.specs.FieldEnds.{at_other}
 use Rattle.text.specs.Numbers.{Value, Malformed, nought, nine}
-use Rattle.text.specs.Reading.{Reads}
+use Rattle.text.specs.Reading.{front, Reads}
 use Rattle.hexadecimal.specs.Hexadecimal.{digits, small_a, small_f, digit_of, digit, behind, hex_of}
 
 -- ---- what a byte spells, by where it lies
@@ -101,7 +100,7 @@ no_feed : digit line_feed ≡ true → ⊥
 unfolding digit_of
 no_feed e = let z : ◌≡◌ {A = ℕ} 0 1 = cc in omega arith
 
-pub too_short : (s : List ℕ) → length s < digits → Reads hex_of Wrong (field s)
+pub too_short : (s : List ℕ) → length s < digits → Reads hex_of None (field s)
 too_short s h = (sym (hex_of_other s (λ e. omega (arith, field_within s, up_le line_feed s))), omega arith)
 
 module _ (s : List ℕ) (on : HasLine s) (h : digits ≤ length s) where
@@ -120,14 +119,14 @@ module _ (s : List ℕ) (on : HasLine s) (h : digits ≤ length s) where
           let d = digit_at e (0 + length (field s)) (omega arith) in
           absurd (at_other s on 0 (omega arith) (length (field s)) (omega arith) (λ c. no_comma (rw c at d)) (λ f. no_feed (rw f at d)) refl)
 
-  pub all_digits : (n : ℕ) → every digit (take digits s) ≡ true → behind 0 (take digits s) ≡ n → Reads hex_of (Read (pos n) digits) (field s)
+  pub all_digits : (n : ℕ) → every digit (take digits s) ≡ true → behind 0 (take digits s) ≡ n → Reads hex_of (front (pos n) digits) (field s)
   all_digits n e v = (go (ℕ_discrete (length (field s)) digits), long_enough e)
     where
       go : Dec (length (field s) ≡ digits) → cond (eqb digits (length (field s))) (Value (pos n)) Malformed ≡ hex_of (field s)
       go (yes l) = rw (hex_of_eight s l, e, v, eq-eqb digits (length (field s)) (sym l))
       go (no l) = rw (hex_of_other s l, ne_eqb digits (length (field s)) (λ q. l (sym q)))
 
-  pub not_digits : every digit (take digits s) ≡ false → Reads hex_of Wrong (field s)
+  pub not_digits : every digit (take digits s) ≡ false → Reads hex_of None (field s)
   not_digits e = (go (ℕ_discrete (length (field s)) digits), omega arith)
     where
       go : Dec (length (field s) ≡ digits) → Malformed ≡ hex_of (field s)

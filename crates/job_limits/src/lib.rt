@@ -2,10 +2,11 @@
 #![tactic(auto)]
 
 ghost use Rattle.std.specs.Prelude.{◌≡◌};
+ghost use Rattle.package.specs.Refusals.{refusal_in};
 ghost use Rattle.job_limits.specs.JobRules.{job_refusal};
 
 use line_counts::count_lines;
-use package::refusals::{DONE, EMPTY_JOB, NO_ROOM, WRONG_JOB};
+use package::refusals::Refusal;
 use text::LINE_FEED;
 
 // The most bytes and lines of a job, and the bytes of output that it needs for each line.
@@ -15,26 +16,25 @@ pub const LINES_LIMIT: usize = 1_000;
 
 pub const LINE_ROOM: usize = 40;
 
-// Why a job does not run with room for so many bytes of output, 0 where it runs.
-pub fn job_refusal(job: &[u8], room: usize) -> u32
-    ensures { result ≡ job_refusal job.now room }
+// Whether a job runs with room for so many bytes of output, and why it does not.
+pub fn check_job(job: &[u8], room: usize) -> Result<(), Refusal>
+    ensures { refusal_in result ≡ job_refusal job.now room }
 {
-    let size = job.len();
-    if size == 0 {
-        return EMPTY_JOB;
+    let Some(last) = job.last() else {
+        return Err(Refusal::EmptyJob);
+    };
+    if JOB_LIMIT < job.len() {
+        return Err(Refusal::WrongJob);
     }
-    if JOB_LIMIT < size {
-        return WRONG_JOB;
-    }
-    if job[size - 1] != LINE_FEED {
-        return WRONG_JOB;
+    if *last != LINE_FEED {
+        return Err(Refusal::WrongJob);
     }
     let lines = count_lines(job);
     if LINES_LIMIT < lines {
-        return WRONG_JOB;
+        return Err(Refusal::WrongJob);
     }
     if room < LINE_ROOM * lines {
-        return NO_ROOM;
+        return Err(Refusal::NoRoom);
     }
-    DONE
+    Ok(())
 }

@@ -1,11 +1,11 @@
 -- A line by the call that it says.
-use Rattle.std.specs.Prelude.{◌≡◌, List, ℕ, ℤ}
-use Rattle.std.proofs.Common.{ap, ◌∙◌, ne_eqb}
+use Rattle.std.specs.Prelude.{◌≡◌, List, ℕ, ℤ, Result, Ok, Err}
+use Rattle.std.proofs.Common.{ap, ◌∙◌}
 use Rattle.rules.specs.Calls.{Call}
-use Rattle.area.specs.Called.{Called, called}
-use Rattle.job_text.specs.Letters.{letter_g}
-use Rattle.job_text.specs.Lines.{Said, malformed, says}
-use Rattle.job_text.specs.Fields.{said_in}
+use Rattle.package.specs.declared.refusals.Refusal.{Refusal}
+use Rattle.package.specs.declared.found.Evaluation.{Evaluation}
+use Rattle.area.specs.Called.{Called, answered_by, called}
+use Rattle.job_text.specs.Lines.{Said, says}
 use Rattle.job_answers.specs.LineAnswers.{row}
 use Rattle.job_answers.specs.declared.Row.{Row}
 use Rattle.job_lines.specs.LineCalled.{ran_as, line_ran}
@@ -17,8 +17,8 @@ call_ran area n c {a = a} e q k =
     ∙ ap (λ (x : Called). ran_as (row n x.refusal x.evaluation) x.area) e
     ∙ ap (line_ran area n) k
 
--- a byte that is no letter
-pub no_letter : (x : ℕ) (vs : List ℤ) → (x ≡ 69 → ⊥) → (x ≡ 87 → ⊥) → (x ≡ 79 → ⊥) → (x ≡ 67 → ⊥) → (x ≡ 84 → ⊥) → (x ≡ 90 → ⊥) → (x ≡ letter_g → ⊥)
-    → said_in x vs ≡ malformed
-unfolding said_in
-no_letter x vs e w o c t z g = rw (ne_eqb x 69 e, ne_eqb x 87 w, ne_eqb x 79 o, ne_eqb x 67 c, ne_eqb x 84 t, ne_eqb x 90 z, ne_eqb x letter_g g)
+-- a line that measures
+pub measured_ran : (area : List ℤ) (n : ℕ) (c : Call) (e : Result Evaluation Refusal) (new : List ℤ) {s : Said} {r : Row} → answered_by e new ≡ called area c
+    → ((zs : List ℤ) → r ≡ row n (answered_by e zs).refusal (answered_by e zs).evaluation) → says c ≡ s → ran_as r new ≡ line_ran area n s
+measured_ran area n c (Ok v) new h q k = call_ran area n c h (q new) k
+measured_ran area n c (Err x) new h q k = call_ran area n c h (q new) k

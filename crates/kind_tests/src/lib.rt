@@ -1,28 +1,84 @@
 // The tests by kind on the arguments, which both ways of measuring share: numbers, positions. Document 01, 'Measured sizes' and 'Alarm numbers'.
 #![tactic(auto)]
 
-ghost use Rattle.std.specs.Prelude.{◌≡◌, [], ◌∷◌};
+ghost use Rattle.std.specs.Prelude.{◌≡◌, true, [], ◌∷◌, IfOk};
 ghost use Rattle.lists.specs.Each.{every};
+ghost use Rattle.package.specs.Given.{raws_by};
+ghost use Rattle.package.specs.Refusals.{refusal_in};
 ghost use Rattle.rules.specs.Stores.{position_range, width_range};
+ghost use Rattle.rules.specs.Refusals.{first};
+ghost use Rattle.rules.specs.Readings.{raws_of};
 ghost use Rattle.rules.specs.Sizes.{numbers_ok, positions_ok};
+ghost use Rattle.kinds.specs.Touches.{Touches};
+ghost use Rattle.kind_tests.specs.Probing.{probing_rules, NumbersIf};
 
-use kinds::single_centre;
+use floats::{Raw, positions_of};
+use kinds::{Surfaces, surfaces_of};
 use package::arguments::{Probing, Raws};
-use package::found::{Form, Kind};
-use package::limits::{AXIS_COUNT, POSITION_LIMIT, PROBE_COUNT};
+use package::found::Kind;
+use package::limits::{POSITION_LIMIT, PROBE_COUNT};
+use package::refusals::Refusal;
 use signed::in_range;
 
-// Whether the numbers that a kind uses are numbers of their stores.
+// What is probed, tested: the numbers that its kind uses are numbers of their stores, its positions, set centres and setpoint in range.
+#[derive(Clone, Copy)]
+pub struct Probed {
+    pub kind: Kind,
+    pub probing: Probing,
+    pub raws: Raws<i64>,
+    pub ghost numbers: { numbers_ok kind probing ≡ true },
+    pub ghost positions: { positions_ok kind probing raws ≡ true },
+}
+
+impl Probed {
+    // The arguments of a measurement of a kind, with the positions that its raws give.
+    pub fn tested<T: Raw>(kind: Kind, probing: Probing, raws: Raws<T>) -> Result<Probed, Refusal>
+        ensures refusal { refusal_in result ≡ first (probing_rules kind probing (raws_by T.reading raws)) }
+        ensures given { IfOk result (λ p. (p.kind ≡ kind) × (p.probing ≡ probing) × (p.raws ≡ raws_of kind probing (raws_by T.reading raws))) }
+    {
+        let surfaces = numbered(kind, probing)?;
+        let raws = positions_of(kind, probing, raws).ok_or(Refusal::BadFloat)?;
+        if used_ok(surfaces, probing, raws) {
+            Ok(Probed {
+                kind,
+                probing,
+                raws,
+            })
+        } else {
+            Err(Refusal::OutsideRange)
+        }
+    }
+
+    // The surfaces that are touched.
+    pub fn surfaces(self) -> Surfaces
+        ensures { Touches self.kind self.probing result }
+    {
+        surfaces_of(self.kind, self.probing).unwrap()
+    }
+}
+
+// What is touched, where the numbers that the kind uses are numbers of their stores.
 #[tactic(auto, unfolding(rules::specs::Sizes::numbers_ok))]
-pub fn numbers_ok(k: Kind, a: Probing) -> bool
-    ensures { result ≡ numbers_ok k a }
+fn numbered(k: Kind, a: Probing) -> Result<Surfaces, Refusal>
+    ensures { NumbersIf k a result }
 {
-    let form = k.form;
-    let probe = in_range(a.probe, 1, PROBE_COUNT);
-    match form {
-        Form::Plane => probe & (in_range(a.axis, 1, AXIS_COUNT) & in_range(a.direction, 0, 1)),
-        Form::Single => probe & in_range(a.axis, 1, 2),
-        Form::Double => probe,
+    if !in_range(a.probe, 1, PROBE_COUNT) {
+        return Err(Refusal::NoSuchNumber);
+    }
+    surfaces_of(k, a)
+}
+
+// Whether the used positions, set centres and setpoint are in range.
+fn used_ok(s: Surfaces, a: Probing, q: Raws<i64>) -> bool
+    ensures { (k : Kind) → Touches k a s → result ≡ positions_ok k a q }
+{
+    match s {
+        Surfaces::Plane(_) => position_ok(q.r1) & position_ok(a.setpoint),
+        Surfaces::Pair(p) => both_ok(q.r1, q.r2) & position_ok(p.set) & width_ok(a.setpoint),
+        Surfaces::Pairs(_) => {
+            let raws = both_ok(q.r1, q.r2) & both_ok(q.r3, q.r4);
+            raws & both_ok(a.c1, a.c2) & width_ok(a.setpoint)
+        }
     }
 }
 
@@ -42,18 +98,4 @@ fn width_ok(v: i64) -> bool
     ensures { result ≡ width_range v }
 {
     in_range(v, 1, POSITION_LIMIT)
-}
-
-// Whether the used positions, set centres and setpoint are in range.
-pub fn positions_ok(k: Kind, a: Probing, q: Raws) -> bool
-    ensures { result ≡ positions_ok k a q }
-{
-    let form = k.form;
-    match form {
-        Form::Plane => position_ok(q.r1) & position_ok(a.setpoint),
-        Form::Single => both_ok(q.r1, q.r2) & position_ok(single_centre(a)) & width_ok(a.setpoint),
-        Form::Double => (both_ok(q.r1, q.r2) & both_ok(q.r3, q.r4))
-            & both_ok(a.c1, a.c2)
-            & width_ok(a.setpoint),
-    }
 }

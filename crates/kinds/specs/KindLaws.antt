@@ -1,21 +1,33 @@
 -- What the tests of a kind's arguments tell: of its probe, of a plane, and of every pair.
-use Rattle.std.specs.Prelude.{◌≡◌, refl, Bool, true, false, cond, ◌&&◌, [], ◌∷◌, zero, suc, ℤ, pos, negsuc}
+use Rattle.std.specs.Prelude.{◌≡◌, refl, Bool, true, false, cond, ◌&&◌, [], ◌∷◌, zero, suc, ℤ, pos, negsuc, Result, Ok, Err, IsOk}
 use Rattle.std.proofs.Math.Bool.{and-eq-true_iff}
-use Rattle.std.proofs.Common.{arith}
+use Rattle.std.proofs.Common.{sym, ◌∙◌, arith}
 use Rattle.signed.specs.Ranges.{within}
 use Rattle.signed.specs.RangeLaws.{true_T, below_top}
 use Rattle.lists.specs.Each.{Each, every, every_each}
+use Rattle.package.specs.declared.refusals.Refusal.{Refusal}
+use Rattle.package.specs.declared.refusals.Refusal.TheVariants.{NoSuchNumber}
 use Rattle.package.specs.declared.found.Form.{Form}
 use Rattle.package.specs.declared.found.Form.TheVariants.{Plane, Single, Double}
 use Rattle.package.specs.declared.found.Kind.{Kind}
 use Rattle.package.specs.declared.arguments.Probing.{Probing}
-use Rattle.package.specs.declared.arguments.Raws.{Raws}
+use Rattle.package.specs.Given.{Raws}
 use Rattle.rules.specs.Stores.{axis_number, direction_number, probe_number, position_range, width_range}
 use Rattle.rules.specs.RefusalLaws.{all_of}
 use Rattle.rules.specs.Probes.{on}
 use Rattle.rules.specs.Kinds.{kind, by_form}
 use Rattle.rules.specs.Sizes.{pairs, touches, raw_at, numbers_ok, positions_ok}
-use Rattle.kinds.specs.Touches.{Placed, Positioned}
+use Rattle.kinds.specs.declared.Surfaces.{Surfaces}
+use Rattle.kinds.specs.Touches.{known, Placed, Positioned, TouchesIf}
+
+-- ---- the kind of a number, and refusal 2 where it is none's
+pub known_is : (b : Bool) (k : Kind) {j : Kind} → known b k ≡ Ok j → (b ≡ true) × (j ≡ k)
+known_is true k e = (refl, cc)
+known_is false k e = absurd (cc)
+
+pub known_not : (b : Bool) (k : Kind) {r : Refusal} → known b k ≡ Err r → (b ≡ false) × (r ≡ NoSuchNumber)
+known_not true k e = absurd (cc)
+known_not false k e = (refl, cc)
 
 -- ---- numbers
 -- the axis of a single pair is 1 or 2
@@ -34,6 +46,10 @@ module _ (k : Kind) (a : Probing) (passed : numbers_ok k a ≡ true) where
       (by_form k.form (axis_number a.axis && direction_number a.direction) (within (pos 1) (pos 2) a.axis) true ≡ true)
   unfolding numbers_ok
   numbers = (and-eq-true_iff (probe_number a.probe) _).0 passed
+
+  pub surfaces_named : (r : Result Surfaces Refusal) → TouchesIf k a r → IsOk r
+  surfaces_named (Ok s) t = refl
+  surfaces_named (Err e) t = absurd (true_T (sym t.0 ∙ numbers.1))
 
   pub probe_number_lem : probe_number a.probe ≡ true
   probe_number_lem = numbers.0

@@ -1,26 +1,25 @@
 // The kinds of measurement, and the surfaces that each touches. Document 01, 'Measured sizes'.
 #![tactic(auto)]
 
-ghost use Rattle.std.specs.Prelude.{◌≡◌, Bool, [], ◌∷◌};
-ghost use Rattle.lists.specs.Each.{Each};
-ghost use Rattle.package.specs.declared.found.Form.TheVariants.{Single, Double};
-ghost use Rattle.rules.specs.Kinds.{kind, tool_kind};
-ghost use Rattle.rules.specs.Sizes.{pairs, plane};
-ghost use Rattle.kinds.specs.Touches.{touch, across};
+ghost use Rattle.std.specs.Prelude.{◌≡◌, cond, pos};
+ghost use Rattle.package.specs.Ways.{axis_number, direction_number};
+ghost use Rattle.rules.specs.Kinds.{tool_kind, tool_kind_number};
+ghost use Rattle.kinds.specs.Touches.{known, across, span, TouchesIf};
 
 use package::arguments::Probing;
 use package::found::{Form, Kind};
+use package::refusals::Refusal;
+use package::ways::{Axis, Direction, Way};
 
-// A surface that is touched: its axis, the direction in which it is touched, and the number of its raw.
-#[derive(Drop)]
+// A surface that is touched: the way in which it is touched, and the number of its raw.
+#[derive(Clone, Copy)]
 pub struct Touch {
-    pub axis: i64,
-    pub direction: i64,
+    pub way: Way,
     pub number: i64,
 }
 
 // A pair of surfaces across an axis, with its set centre.
-#[derive(Drop)]
+#[derive(Clone, Copy)]
 pub struct Across {
     pub low: Touch,
     pub high: Touch,
@@ -28,133 +27,78 @@ pub struct Across {
 }
 
 // The pairs of a hole or shaft, on axes 1 and 2.
-#[derive(Drop)]
+#[derive(Clone, Copy)]
 pub struct Both {
     pub abscissa: Across,
     pub ordinate: Across,
 }
 
-// The directions in which the low and the high surface of a pair are touched.
-#[derive(Drop)]
-struct Ways {
-    low: i64,
-    high: i64,
+// What a measurement touches: the surface of a plane, the pair of a groove or web, or both pairs of a hole or shaft.
+#[derive(Clone, Copy)]
+pub enum Surfaces {
+    Plane(Touch),
+    Pair(Across),
+    Pairs(Both),
 }
 
-// The kind of a number with tool offset; a plane where there is none.
-pub fn kind_of(n: i64) -> Kind
-    ensures { result ≡ tool_kind n }
+// The kind of a number with tool offset.
+pub fn tool_kind(n: i64) -> Result<Kind, Refusal>
+    ensures { result ≡ known (tool_kind_number n) (tool_kind n) }
 {
-    match n {
-        1 => Kind {
-            form: Form::Double,
-            inside: true,
-        },
-        2 => Kind {
-            form: Form::Double,
-            inside: false,
-        },
-        3 => Kind {
-            form: Form::Single,
-            inside: true,
-        },
-        4 => Kind {
-            form: Form::Single,
-            inside: false,
-        },
-        _ => Kind {
-            form: Form::Plane,
-            inside: false,
-        },
+    let (form, inside) = match n {
+        0 => (Form::Plane, false),
+        1 => (Form::Double, true),
+        2 => (Form::Double, false),
+        3 => (Form::Single, true),
+        4 => (Form::Single, false),
+        _ => return Err(Refusal::NoSuchNumber),
+    };
+    Ok(Kind { form, inside })
+}
+
+// The directions in which the low and the high surface of a pair are touched: inside kinds touch low in the negative, outside kinds in the positive.
+fn directions(inside: bool) -> (Direction, Direction)
+    ensures { (direction_number result.0 ≡ cond inside (pos 1) (pos 0)) × (direction_number result.1 ≡ cond inside (pos 0) (pos 1)) }
+{
+    if inside {
+        return (Direction::Negative, Direction::Positive);
     }
+    (Direction::Positive, Direction::Negative)
 }
 
-// The surface of a plane.
-pub fn plane_touch(a: Probing) -> Touch
-    ensures { touch result ≡ plane a }
+// A pair across an axis, by the numbers of its raws, low and high, and its set centre.
+fn span(inside: bool, axis: Axis, raws: (i64, i64), set: i64) -> Across
+    ensures { across result ≡ span inside (axis_number axis) raws.0 raws.1 set }
 {
-    Touch {
-        axis: a.axis,
-        direction: a.direction,
-        number: 1,
-    }
-}
-
-// Inside kinds touch low in the negative direction and high in the positive, outside kinds the reverse.
-fn ways_of(k: Kind) -> Ways
-    ensures { (a : Probing) → Each (λ p. (p.low.way.direction ≡ result.low) × (p.high.way.direction ≡ result.high)) (pairs k a) }
-{
-    if k.inside {
-        return Ways { low: 1, high: 0 };
-    }
-    Ways { low: 0, high: 1 }
-}
-
-// The set centre of a groove or web, by its axis.
-pub fn single_centre(a: Probing) -> i64
-    ensures { (inside : Bool) → Each (λ p. p.set ≡ result) (pairs (kind Single inside) a) }
-{
-    let axis = a.axis;
-    match axis {
-        1 => a.c1,
-        2 => a.c2,
-        _ => 0,
-    }
-}
-
-// The pair of a groove or web. No call of a user.
-pub fn single_pair(k: Kind, a: Probing) -> Across
-    requires { k.form ≡ Single }
-    ensures { pairs k a ≡ across result ∷ [] }
-{
-    let ways = ways_of(k);
+    let (low, high) = directions(inside);
+    let touch = |direction: Direction, number: i64| Touch {
+        way: Way { axis, direction },
+        number,
+    };
     Across {
-        low: Touch {
-            axis: a.axis,
-            direction: ways.low,
-            number: 1,
-        },
-        high: Touch {
-            axis: a.axis,
-            direction: ways.high,
-            number: 2,
-        },
-        set: single_centre(a),
+        low: touch(low, raws.0),
+        high: touch(high, raws.1),
+        set,
     }
 }
 
-// The pairs of a hole or shaft. No call of a user.
-pub fn both_pairs(k: Kind, a: Probing) -> Both
-    requires { k.form ≡ Double }
-    ensures { pairs k a ≡ across result.abscissa ∷ across result.ordinate ∷ [] }
+// What a measurement touches. No axis and no direction but those that its kind uses is looked at.
+pub fn surfaces_of(k: Kind, a: Probing) -> Result<Surfaces, Refusal>
+    ensures { TouchesIf k a result }
 {
-    let ways = ways_of(k);
-    Both {
-        abscissa: Across {
-            low: Touch {
-                axis: 1,
-                direction: ways.low,
-                number: 1,
-            },
-            high: Touch {
-                axis: 1,
-                direction: ways.high,
-                number: 2,
-            },
-            set: a.c1,
+    match k.form {
+        Form::Plane => Ok(Surfaces::Plane(Touch {
+            way: Way::named(a.axis, a.direction)?,
+            number: 1,
+        })),
+        Form::Single => match a.axis {
+            1 => Ok(Surfaces::Pair(span(k.inside, Axis::First, (1, 2), a.c1))),
+            2 => Ok(Surfaces::Pair(span(k.inside, Axis::Second, (1, 2), a.c2))),
+            _ => Err(Refusal::NoSuchNumber),
         },
-        ordinate: Across {
-            low: Touch {
-                axis: 2,
-                direction: ways.low,
-                number: 3,
-            },
-            high: Touch {
-                axis: 2,
-                direction: ways.high,
-                number: 4,
-            },
-            set: a.c2,
-        },
+        Form::Double => Ok(Surfaces::Pairs(Both {
+            abscissa: span(k.inside, Axis::First, (1, 2), a.c1),
+            ordinate: span(k.inside, Axis::Second, (3, 4), a.c2),
+        })),
     }
 }

@@ -1,40 +1,105 @@
-// Measurements by a lent list of numbers, in the order of the fields of a T or Z line, on the area that the caller lends.
+// A measurement of either way that is lent, on the area that the caller lends.
 #![tactic(auto)]
 
-ghost use Rattle.std.specs.Prelude.{◌≡◌};
-ghost use Rattle.measuring.specs.Reply.{reply, tool_exported, zero_exported};
+ghost use Rattle.std.specs.Prelude.{◌≡◌, option_map};
+ghost use Rattle.measuring.specs.Reply as measuring;
+ghost use Rattle.measuring.specs.Reply.{tool, zero, reply, decided_in, exported_of, measured_as, measured_on};
+ghost use Rattle.package.specs.Given.{tool_by, zero_by};
+ghost use Rattle.area.specs.Called.{answered_by};
+ghost use Rattle.lent_measuring.specs.LentMeasured.{tool_lent, zero_lent, tool_readings_lent, zero_readings_lent};
 
+use area::AREA;
 use arguments::{tool_of, zero_of};
-use measuring::{Decided, decided_by, lent_refusal, not_answered};
-use package::refusals::DONE;
+use floats::Raw;
+use lent_reports::lent_readings;
+use package::arguments::{Reading, ToolMeasurement, ZeroMeasurement};
+use package::found::Evaluation;
+use package::refusals::Refusal;
+use results::has_room;
 use tool_measuring::evaluate_tool;
 use zero_measuring::evaluate_zero;
 
-// How many arguments a measurement has.
-pub const TOOL_NUMBERS: usize = 21;
+// A measurement of either way.
+pub trait Measurement: Copy {
+    ghost said: { Self → measuring.Measurement };
 
-pub const ZERO_NUMBERS: usize = 13;
-
-// Measures with tool offset by 21 numbers and writes the 42 numbers that begin at place.
-pub fn measure_tool(area: &mut [i32], numbers: &[i64], results: &mut [i32], place: usize) -> Decided
-    ensures { reply result area.new results.new ≡ tool_exported area.old numbers.now results.old place }
-{
-    let many = numbers.len() == TOOL_NUMBERS;
-    let refusal = lent_refusal(area.len(), many, results.len(), place);
-    if refusal != DONE {
-        return decided_by(not_answered(refusal));
-    }
-    decided_by(evaluate_tool(area, tool_of(numbers), results, place))
+    // Measures; the 42 numbers are written to the front of the results where they have room for them.
+    fn evaluate(self, area: &mut [i32], results: &mut [i32]) -> Result<Evaluation, Refusal>
+        ensures { measured_as (answered_by result area.new) results.new
+            ≡ measured_on area.old (said self) results.old 0 };
 }
 
-// Measures with zero offset by 13 numbers and writes the 42 numbers that begin at place.
-pub fn measure_zero(area: &mut [i32], numbers: &[i64], results: &mut [i32], place: usize) -> Decided
-    ensures { reply result area.new results.new ≡ zero_exported area.old numbers.now results.old place }
-{
-    let many = numbers.len() == ZERO_NUMBERS;
-    let refusal = lent_refusal(area.len(), many, results.len(), place);
-    if refusal != DONE {
-        return decided_by(not_answered(refusal));
+impl<T: Raw> Measurement for ToolMeasurement<T> {
+    ghost said = { λ t. tool (tool_by T.reading t) };
+
+    fn evaluate(self, area: &mut [i32], results: &mut [i32]) -> Result<Evaluation, Refusal> {
+        evaluate_tool(area, self, results)
     }
-    decided_by(evaluate_zero(area, zero_of(numbers), results, place))
+}
+
+impl<T: Raw> Measurement for ZeroMeasurement<T> {
+    ghost said = { λ t. zero (zero_by T.reading t) };
+
+    fn evaluate(self, area: &mut [i32], results: &mut [i32]) -> Result<Evaluation, Refusal> {
+        evaluate_zero(area, self, results)
+    }
+}
+
+// Measures where as many arguments were lent as a measurement has, and writes the 42 numbers that begin at place.
+pub fn measure<M: Measurement>(
+    area: &mut [i32],
+    m: Option<M>,
+    results: &mut [i32],
+    place: usize,
+) -> Result<Evaluation, Refusal>
+    ensures { reply (decided_in result) area.new results.new
+        ≡ exported_of area.old (option_map M.said m) results.old place }
+{
+    if area.len() != AREA {
+        return Err(Refusal::WrongArea);
+    }
+    let Some(m) = m else {
+        return Err(Refusal::WrongArguments);
+    };
+    if !has_room(results.len(), place) {
+        return Err(Refusal::NoRoom);
+    }
+    m.evaluate(area, &mut results[place..])
+}
+
+// What a measurement with tool offset is lent, where it is 21 numbers.
+pub fn lent_tool(numbers: &[i64]) -> Option<ToolMeasurement<i64>>
+    ensures { result ≡ tool_lent numbers.now }
+{
+    Some(tool_of(numbers.as_array()?))
+}
+
+// What a measurement with zero offset is lent, where it is 13 numbers.
+pub fn lent_zero(numbers: &[i64]) -> Option<ZeroMeasurement<i64>>
+    ensures { result ≡ zero_lent numbers.now }
+{
+    Some(zero_of(numbers.as_array()?))
+}
+
+// The same with 12 floats, the raws that `reported` marks by their reports.
+pub fn lent_tool_readings(
+    numbers: &[i64],
+    floats: &[f32],
+    reported: u32,
+) -> Option<ToolMeasurement<Reading>>
+    ensures { result ≡ tool_readings_lent numbers.now floats.now reported }
+{
+    let a = lent_tool(numbers)?;
+    Some(a.with_raws(lent_readings(a.raws, floats.as_array()?, reported)))
+}
+
+pub fn lent_zero_readings(
+    numbers: &[i64],
+    floats: &[f32],
+    reported: u32,
+) -> Option<ZeroMeasurement<Reading>>
+    ensures { result ≡ zero_readings_lent numbers.now floats.now reported }
+{
+    let a = lent_zero(numbers)?;
+    Some(a.with_raws(lent_readings(a.raws, floats.as_array()?, reported)))
 }

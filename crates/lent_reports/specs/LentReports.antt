@@ -1,15 +1,10 @@
 -- Request 2026-01: readings as C lends them: whole numbers, twelve floats, X, Y and Z of each raw in a row, and a number whose bits say which raws are reports.
 use Rattle.std.specs.Prelude.{Bool, cond, List, ℕ, ◌+◌, ◌/◌, ◌%◌, eqb, Float, ℤ, get_or}
 use Rattle.std.specs.Float.{nan}
-use Rattle.package.specs.declared.arguments.Raws.{Raws}
+use Rattle.package.specs.Given.{Raws, Readings, ToolMeasurement, ToolReadings, ZeroMeasurement, ZeroReadings}
 use Rattle.package.specs.declared.arguments.Report.{Report}
 use Rattle.package.specs.declared.arguments.Reading.{Reading}
 use Rattle.package.specs.declared.arguments.Reading.TheVariants.{Whole, Reported}
-use Rattle.package.specs.declared.arguments.Readings.{Readings}
-use Rattle.package.specs.declared.arguments.ToolMeasurement.{ToolMeasurement}
-use Rattle.package.specs.declared.arguments.ToolReadings.{ToolReadings}
-use Rattle.package.specs.declared.arguments.ZeroMeasurement.{ZeroMeasurement}
-use Rattle.package.specs.declared.arguments.ZeroReadings.{ZeroReadings}
 
 -- how many floats are lent
 abbrev pub report_floats : ℕ
@@ -37,7 +32,7 @@ lent_readings q floats reported =
 
 -- a measurement with these readings in place of its whole positions
 abbrev pub tool_reported : ToolMeasurement → Readings → ToolReadings
-tool_reported a q = record { probing = a.probing; readings = q; tool = a.tool; ev = a.ev; mv = a.mv; k = a.k; limits = a.limits }
+tool_reported a q = record { probing = a.probing; raws = q; tool = a.tool; ev = a.ev; mv = a.mv; k = a.k; limits = a.limits }
 
 abbrev pub zero_reported : ZeroMeasurement → Readings → ZeroReadings
-zero_reported a q = record { probing = a.probing; readings = q; offset = a.offset; tsa = a.tsa }
+zero_reported a q = record { probing = a.probing; raws = q; offset = a.offset; tsa = a.tsa }

@@ -14,27 +14,17 @@ fn count_block(s: &[u8]) -> u8
     requires { length s.now ≤ 128 }
     ensures { result ≡ length (lines s.now) }
 {
-    let mut n: u8 = 0;
-    let mut i: usize = 0;
-    while i < s.len() {
-        if s[i] == LINE_FEED {
-            n += 1;
-        }
-        i += 1;
-    }
-    n
+    s.iter().map(|b| u8::from(*b == LINE_FEED)).sum()
 }
 
 // How many lines there are.
 pub fn count_lines(s: &[u8]) -> usize
     ensures { result ≡ length (lines s.now) }
 {
-    let mut n: usize = 0;
-    let mut at: usize = 0;
-    while BLOCK < s.len() - at {
-        let end = at + BLOCK;
-        n += count_block(&s[at..end]) as usize;
-        at = end;
+    let (blocks, rest) = s.as_chunks::<BLOCK>();
+    let mut n = usize::from(count_block(rest));
+    for block in blocks {
+        n += usize::from(count_block(block));
     }
-    n + count_block(&s[at..]) as usize
+    n
 }

@@ -3,25 +3,15 @@
 
 ghost use Rattle.std.specs.Prelude.{◌≡◌, true, ◌≤◌, pos, nat_abs};
 ghost use Rattle.signed.specs.Ranges.{within};
-ghost use Rattle.rules.specs.Mean.{mean_change, mean_step};
+ghost use Rattle.rules.specs.Mean.{mean_step};
 
 use signed::rounded_quotient;
 
-// The step of the mean m at the deviation d with weighting factor k: (m - d) / k rounded, halves away from zero.
-#[tactic(auto, unfolding(rules::specs::Mean::mean_change, rules::specs::Mean::mean_rounding, signed::specs::Rounding::rounded_quotient))]
-fn mean_change(m: i64, d: i64, k: i64) -> i64
-    requires m_bound { (nat_abs m ≤ 100000000) × (nat_abs d ≤ 100000000) }
-    requires k_value { within (pos 1) (pos 1000) k ≡ true }
-    ensures { result ≡ mean_change m d (nat_abs k) }
-{
-    rounded_quotient(m - d, k)
-}
-
-// The mean m after one more deviation d with weighting factor k. No call of a user.
+// The mean m after one more deviation d with weighting factor k: less (m - d) / k rounded, halves away from zero. No call of a user.
 pub fn mean_step(m: i64, d: i64, k: i64) -> i64
     requires m_bound { (nat_abs m ≤ 100000000) × (nat_abs d ≤ 100000000) }
     requires k_value { within (pos 1) (pos 1000) k ≡ true }
     ensures { result ≡ mean_step m d (nat_abs k) }
 {
-    m - mean_change(m, d, k)
+    m - rounded_quotient(m - d, k)
 }

@@ -3,6 +3,7 @@
 
 ghost use Rattle.std.specs.Prelude.{◌≡◌, map, ◌+◌, ◌≤◌, length};
 ghost use Rattle.lists.specs.Written.{written};
+ghost use Rattle.package.specs.Refusals.{refusal_in};
 ghost use Rattle.rules.specs.Block.{words};
 ghost use Rattle.rules.specs.Stores.{means};
 ghost use Rattle.rules.specs.Calls.{load};
@@ -11,10 +12,10 @@ ghost use Rattle.area.specs.Table.{record_from};
 ghost use Rattle.area.specs.Called.{unmeasured, called};
 ghost use Rattle.memory.specs.Saved.{saved_as, save_called};
 
-use area::{AREA, EMPIRICALS, MEANS, WRONG_AREA, value_from};
+use area::{AREA, EMPIRICALS, MEANS, value_from};
 use layout::Section;
 use package::records::Memory;
-use package::refusals::{DONE, NO_ROOM};
+use package::refusals::Refusal;
 use records::{decode, save_memory};
 
 // Writes the values of 40 bytes from a place on.
@@ -22,27 +23,26 @@ fn write_values(area: &mut [i32], at: usize, bytes: &[u8])
     requires { (at + 20 ≤ length area.old) × (length bytes.now ≡ 40) }
     ensures { area.new ≡ written area.old at (words bytes.now) }
 {
-    let mut i: usize = 0;
-    while i < 20 {
+    for i in 0..20 {
         let v = decode(bytes[2 * i], bytes[2 * i + 1]);
-        area[at + i] = v as i32;
-        i += 1;
+        area[at + i] = i32::from(v);
     }
 }
 
 // Replaces all empirical and mean values by those of a block of 80 bytes.
-pub fn load(area: &mut [i32], bytes: &[u8]) -> u32
-    ensures { unmeasured result area.new ≡ called area.old (load bytes.now) }
+#[tactic(auto, using(area::specs::CalledLaws::call_wrong))]
+pub fn load(area: &mut [i32], bytes: &[u8]) -> Result<(), Refusal>
+    ensures { unmeasured (refusal_in result) area.new ≡ called area.old (load bytes.now) }
 {
-    if area.len() != AREA {
-        return WRONG_AREA;
-    }
-    if bytes.len() != 80 {
-        return NO_ROOM;
-    }
-    write_values(area, EMPIRICALS.at, &bytes[..40]);
-    write_values(area, MEANS.at, &bytes[40..]);
-    DONE
+    let Some(whole) = area.as_mut_array::<AREA>() else {
+        return Err(Refusal::WrongArea);
+    };
+    let Some(block) = bytes.as_array::<80>() else {
+        return Err(Refusal::NoRoom);
+    };
+    write_values(whole, EMPIRICALS.at, &block[..40]);
+    write_values(whole, MEANS.at, &block[40..]);
+    Ok(())
 }
 
 // The values of a section.
@@ -51,22 +51,21 @@ fn read_values(area: &[i32], s: Section) -> [i16; 20]
     ensures { result ≡ map (record_from means) (records s area.now) }
 {
     let mut values = [0i16; 20];
-    let mut i: usize = 0;
-    while i < 20 {
+    for i in 0..20 {
         values[i] = value_from(area[s.at + i]);
-        i += 1;
     }
     values
 }
 
 // Writes the block of all empirical and mean values to the first 80 bytes of the buffer.
-pub fn save(area: &[i32], buffer: &mut [u8]) -> u32
-    ensures { saved_as result buffer.new ≡ save_called area.now buffer.old }
+#[tactic(auto, using(crate::specs::BlockCallLaws::save_wrong))]
+pub fn save(area: &[i32], buffer: &mut [u8]) -> Result<(), Refusal>
+    ensures { saved_as (refusal_in result) buffer.new ≡ save_called area.now buffer.old }
 {
-    if area.len() != AREA {
-        return WRONG_AREA;
-    }
-    let empirical = read_values(area, EMPIRICALS);
-    let means = read_values(area, MEANS);
+    let Some(whole) = area.as_array::<AREA>() else {
+        return Err(Refusal::WrongArea);
+    };
+    let empirical = read_values(whole, EMPIRICALS);
+    let means = read_values(whole, MEANS);
     save_memory(Memory { empirical, means }, buffer)
 }

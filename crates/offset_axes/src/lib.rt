@@ -1,25 +1,36 @@
 // An axis of an offset: its growth held against TSA, what it is after, and whether that is in range. Document 01, 'Zero offset kinds'.
 #![tactic(auto)]
 
-ghost use Rattle.std.specs.Prelude.{◌≡◌, true, ◌≤◌, nat_abs, ◌+ℤ◌};
-ghost use Rattle.rules.specs.Stores.{axis_number, offset_range};
+ghost use Rattle.std.specs.Prelude.{◌≡◌, ◌≤◌, nat_abs, ◌+ℤ◌};
+ghost use Rattle.package.specs.Ways.{axis_number};
+ghost use Rattle.rules.specs.Stores.{offset_range};
 ghost use Rattle.rules.specs.Zero.{growth, within_twice_tsa, axis_of};
-ghost use Rattle.sizes.specs.SizeLaws.{SizesSmall};
 
 use growths::growth_of;
-use package::arguments::{Probing, ZeroMeasurement};
-use package::found::{Kind, Sizes};
+use kind_tests::Probed;
 use package::limits::OFFSET_LIMIT;
 use package::records::Offset;
-use signed::{in_range, index, magnitude};
+use package::ways::Axis;
+use signed::{in_range, magnitude};
+use sizes::MeasuredSizes;
+use zero_refusals::PassedZero;
 
-// Whether the growth of axis n keeps to TSA, which is doubled for h. No call of a user.
-pub fn growth_ok(k: Kind, a: ZeroMeasurement, s: Sizes, n: i64) -> bool
-    requires { SizesSmall s × (nat_abs a.tsa ≤ 1000000) }
-    ensures { result ≡ within_twice_tsa a (growth k a.probing s n) }
+// Whether the growth of an axis keeps to TSA, which is doubled for h.
+pub fn growth_ok(z: PassedZero, s: MeasuredSizes, axis: Axis) -> bool
+    ensures { result ≡ within_twice_tsa z.given (growth z.kind z.given.probing s.sizes (axis_number axis)) }
 {
-    let probing = a.probing;
-    magnitude(growth_of(k, probing, s, n)) <= 2 * a.tsa
+    magnitude(growth_of(z.probed(), s, axis)) <= 2 * z.given.tsa
+}
+
+// The number of an offset on an axis.
+pub fn stored(o: Offset, axis: Axis) -> i32
+    ensures { result ≡ axis_of o (axis_number axis) }
+{
+    match axis {
+        Axis::First => o.axes[0],
+        Axis::Second => o.axes[1],
+        Axis::Third => o.axes[2],
+    }
 }
 
 // A number of an offset that grew.
@@ -30,19 +41,17 @@ fn grown(v: i32, by: i64) -> i64
     (v as i64) + by
 }
 
-// Axis n of an offset after its growth. No call of a user.
-pub fn axis_left(o: Offset, k: Kind, a: Probing, s: Sizes, n: i64) -> i64
-    requires { SizesSmall s × (axis_number n ≡ true) }
-    ensures { result ≡ axis_of o n +ℤ growth k a s n }
+// The number v of an offset on an axis, after its growth.
+pub fn axis_left(v: i32, p: Probed, s: MeasuredSizes, axis: Axis) -> i64
+    ensures { result ≡ v +ℤ growth p.kind p.probing s.sizes (axis_number axis) }
 {
-    let i = index(n);
-    grown(o.axes[i], growth_of(k, a, s, n))
+    grown(v, growth_of(p, s, axis))
 }
 
-// Whether axis n stays in range. No call of a user.
-pub fn left_ok(o: Offset, k: Kind, a: Probing, s: Sizes, n: i64) -> bool
-    requires { SizesSmall s × (axis_number n ≡ true) }
-    ensures { result ≡ offset_range (axis_of o n +ℤ growth k a s n) }
+// Whether an axis stays in range.
+pub fn left_ok(o: Offset, p: Probed, s: MeasuredSizes, axis: Axis) -> bool
+    ensures { result ≡ offset_range (axis_of o (axis_number axis) +ℤ growth p.kind p.probing s.sizes (axis_number axis)) }
 {
-    in_range(axis_left(o, k, a, s, n), -OFFSET_LIMIT, OFFSET_LIMIT)
+    let left = axis_left(stored(o, axis), p, s, axis);
+    in_range(left, -OFFSET_LIMIT, OFFSET_LIMIT)
 }

@@ -1,24 +1,26 @@
-// What the calls are given.
+// What the calls are given. At each touch a T is read: a whole position, or a reading.
+ghost use Rattle.std.specs.Prelude.{◌≡◌};
+ghost use Rattle.package.specs.Given.{calibration_with, tool_with, zero_with};
 
 // What a calibration is given.
 #[derive(Clone, Copy)]
-pub struct Calibration {
+pub struct Calibration<T> {
     pub probe: i64,
     pub axis: i64,
     pub direction: i64,
     pub setpoint: i64,
-    pub raw: i64,
+    pub raw: T,
     pub tzl: i64,
     pub tsa: i64,
 }
 
 // The raws of a measurement.
 #[derive(Clone, Copy)]
-pub struct Raws {
-    pub r1: i64,
-    pub r2: i64,
-    pub r3: i64,
-    pub r4: i64,
+pub struct Raws<T> {
+    pub r1: T,
+    pub r2: T,
+    pub r3: T,
+    pub r4: T,
 }
 
 // What both ways of measuring are given beside their raws: c1 and c2 are set centres.
@@ -45,9 +47,9 @@ pub struct Limits {
 
 // What a measurement with tool offset is given; k is the weighting factor.
 #[derive(Clone, Copy)]
-pub struct ToolMeasurement {
+pub struct ToolMeasurement<T> {
     pub probing: Probing,
-    pub raws: Raws,
+    pub raws: Raws<T>,
     pub tool: i64,
     pub ev: i64,
     pub mv: i64,
@@ -57,9 +59,9 @@ pub struct ToolMeasurement {
 
 // What a measurement with zero offset is given.
 #[derive(Clone, Copy)]
-pub struct ZeroMeasurement {
+pub struct ZeroMeasurement<T> {
     pub probing: Probing,
-    pub raws: Raws,
+    pub raws: Raws<T>,
     pub offset: i64,
     pub tsa: i64,
 }
@@ -79,44 +81,47 @@ pub enum Reading {
     Reported(Report),
 }
 
-// The readings of a measurement.
-#[derive(Clone, Copy)]
-pub struct Readings {
-    pub r1: Reading,
-    pub r2: Reading,
-    pub r3: Reading,
-    pub r4: Reading,
+impl<T: Copy> Calibration<T> {
+    pub fn with_raw<U>(self, raw: U) -> Calibration<U>
+        ensures { result ≡ calibration_with self raw }
+    {
+        Calibration {
+            probe: self.probe,
+            axis: self.axis,
+            direction: self.direction,
+            setpoint: self.setpoint,
+            raw,
+            tzl: self.tzl,
+            tsa: self.tsa,
+        }
+    }
 }
 
-// What a calibration is given, with a reading.
-#[derive(Clone, Copy)]
-pub struct CalibrationReading {
-    pub probe: i64,
-    pub axis: i64,
-    pub direction: i64,
-    pub setpoint: i64,
-    pub reading: Reading,
-    pub tzl: i64,
-    pub tsa: i64,
+impl<T: Copy> ToolMeasurement<T> {
+    pub fn with_raws<U>(self, raws: Raws<U>) -> ToolMeasurement<U>
+        ensures { result ≡ tool_with self raws }
+    {
+        ToolMeasurement {
+            probing: self.probing,
+            raws,
+            tool: self.tool,
+            ev: self.ev,
+            mv: self.mv,
+            k: self.k,
+            limits: self.limits,
+        }
+    }
 }
 
-// What a measurement with tool offset is given, with readings.
-#[derive(Clone, Copy)]
-pub struct ToolReadings {
-    pub probing: Probing,
-    pub readings: Readings,
-    pub tool: i64,
-    pub ev: i64,
-    pub mv: i64,
-    pub k: i64,
-    pub limits: Limits,
-}
-
-// What a measurement with zero offset is given, with readings.
-#[derive(Clone, Copy)]
-pub struct ZeroReadings {
-    pub probing: Probing,
-    pub readings: Readings,
-    pub offset: i64,
-    pub tsa: i64,
+impl<T: Copy> ZeroMeasurement<T> {
+    pub fn with_raws<U>(self, raws: Raws<U>) -> ZeroMeasurement<U>
+        ensures { result ≡ zero_with self raws }
+    {
+        ZeroMeasurement {
+            probing: self.probing,
+            raws,
+            offset: self.offset,
+            tsa: self.tsa,
+        }
+    }
 }

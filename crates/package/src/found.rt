@@ -1,14 +1,19 @@
 // What a measurement reads, finds, decides and answers.
+ghost use Rattle.std.specs.Prelude.{◌≡◌};
+ghost use Rattle.package.specs.Numbers.{branch_number, verdict_number};
+
 use crate::records::{Offset, Probe, Wear};
 
-// The verdicts of a measurement with tool offset, and the branch of one with zero offset.
-pub const IN_TOLERANCE: u32 = 0;
-
-pub const OVERSIZE: u32 = 1;
-
-pub const UNDERSIZE: u32 = 2;
-
+// The branch of a measurement with zero offset.
 pub const ZERO_BRANCH: u32 = 6;
+
+// The verdicts of a measurement, by the paper's numbers.
+#[derive(Clone, Copy, Debug, PartialEq, Eq)]
+pub enum Verdict {
+    InTolerance = 0,
+    Oversize = 1,
+    Undersize = 2,
+}
 
 // What a kind of measurement touches: one surface, a pair on axis 1 or 2, or a pair on each of both.
 #[derive(Clone, Copy)]
@@ -25,14 +30,14 @@ pub struct Kind {
     pub inside: bool,
 }
 
-// The branches of a measurement with tool offset, by document 01's numbers.
-#[derive(Clone, Copy)]
+// The branches of a measurement with tool offset, by the paper's numbers.
+#[derive(Clone, Copy, Debug, PartialEq, Eq)]
 pub enum Branch {
-    One,
-    Two,
-    Three,
-    Four,
-    Five,
+    One = 1,
+    Two = 2,
+    Three = 3,
+    Four = 4,
+    Five = 5,
 }
 
 // What a pair measures: width in u, centre and shift in h, and its set centre in u. All 0 where none is measured.
@@ -105,16 +110,8 @@ pub struct ZeroRecords {
     pub offset: Offset,
 }
 
-// What a calibration leaves of its direction's trigger and its probe's status, with its refusal.
-#[derive(Clone, Copy)]
-pub struct Calibrated {
-    pub trigger: i32,
-    pub status: u32,
-    pub refusal: u32,
-}
-
 // What a measurement comes to: branch, verdict, the deviation of OVR[16] and the correction c.
-#[derive(Clone, Copy)]
+#[derive(Clone, Copy, Debug, Default, PartialEq, Eq)]
 pub struct Evaluation {
     pub branch: u32,
     pub verdict: u32,
@@ -122,9 +119,18 @@ pub struct Evaluation {
     pub correction: i32,
 }
 
-// A measurement's refusal number, 0 when done, and what it comes to.
-#[derive(Clone, Copy)]
-pub struct Answer {
-    pub refusal: u32,
-    pub evaluation: Evaluation,
+impl From<Branch> for u32 {
+    ghost from_gives = { λ b n. n ≡ branch_number b };
+
+    fn from(branch: Branch) -> u32 {
+        branch as u32
+    }
+}
+
+impl From<Verdict> for u32 {
+    ghost from_gives = { λ v n. n ≡ verdict_number v };
+
+    fn from(verdict: Verdict) -> u32 {
+        verdict as u32
+    }
 }

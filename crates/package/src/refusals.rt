@@ -1,28 +1,40 @@
-// The refusals by document 01's 'Alarm numbers'.
-pub const DONE: u32 = 0;
+// What refuses a call, by the paper's 'Alarm numbers'; 100 and 101 are of what a caller lends.
+ghost use Rattle.std.specs.Prelude.{◌≡◌};
+ghost use Rattle.package.specs.Refusals.{number, refusal_in};
 
-pub const NO_ROOM: u32 = 1;
+#[derive(Clone, Copy, Debug, PartialEq, Eq)]
+pub enum Refusal {
+    NoRoom = 1,
+    NoSuchNumber = 2,
+    OutsideRange = 3,
+    WrongLimits = 4,
+    Uncalibrated = 5,
+    NoWidth = 6,
+    BeyondTsa = 7,
+    BeyondTdif = 8,
+    LeavesRange = 9,
+    MalformedLine = 10,
+    EmptyJob = 11,
+    WrongJob = 12,
+    BadFloat = 13,
+    WrongArea = 100,
+    WrongArguments = 101,
+}
 
-pub const NO_SUCH_NUMBER: u32 = 2;
+impl From<Refusal> for u32 {
+    ghost from_gives = { λ r n. n ≡ number r };
 
-pub const OUTSIDE_RANGE: u32 = 3;
+    fn from(refusal: Refusal) -> u32 {
+        refusal as u32
+    }
+}
 
-pub const WRONG_LIMITS: u32 = 4;
-
-pub const UNCALIBRATED: u32 = 5;
-
-pub const NO_WIDTH: u32 = 6;
-
-pub const BEYOND_TSA: u32 = 7;
-
-pub const BEYOND_TDIF: u32 = 8;
-
-pub const LEAVES_RANGE: u32 = 9;
-
-pub const MALFORMED_LINE: u32 = 10;
-
-pub const EMPTY_JOB: u32 = 11;
-
-pub const WRONG_JOB: u32 = 12;
-
-pub const BAD_FLOAT: u32 = 13;
+// The refusal number of a call, 0 when done.
+pub fn refusal_in<T: Drop>(called: Result<T, Refusal>) -> u32
+    ensures { result ≡ refusal_in called }
+{
+    match called {
+        Ok(_) => 0,
+        Err(refusal) => refusal.into(),
+    }
+}

@@ -8,15 +8,14 @@ ghost use Rattle.rules.specs.Calls.{tool_read, zero_read};
 ghost use Rattle.layout.specs.Layout.{end, named, record_of};
 ghost use Rattle.area.specs.Table.{area_length, number, value_from, held};
 
-use area::{EMPIRICALS, MEANS, OFFSETS, PROBES, TOOLS, status_from, value_from};
+use area::{AREA, EMPIRICALS, MEANS, OFFSETS, PROBES, TOOLS, status_from, value_from};
 use layout::{Section, number_at};
 use package::arguments::{ToolMeasurement, ZeroMeasurement};
 use package::found::{ToolRecords, ZeroRecords};
 use package::records::{Offset, Probe, Wear};
 
 // One probe. No call of a user.
-pub fn probe_at(area: &[i32], n: i64) -> Probe
-    requires area_len { length area.now ≡ area_length }
+pub fn probe_at(area: &[i32; AREA], n: i64) -> Probe
     requires n_value { probe_number n ≡ true }
     ensures { result ≡ at (held area.now) probes n }
 {
@@ -34,8 +33,8 @@ pub fn probe_at(area: &[i32], n: i64) -> Probe
 }
 
 // One empirical or mean value; number 0 names none, and 0 is read.
-fn value_at(area: &[i32], s: Section, n: i64) -> i16
-    requires s_in_bounds { end s ≤ length area.now }
+fn value_at(area: &[i32; AREA], s: Section, n: i64) -> i16
+    requires s_in_bounds { end s ≤ area_length }
     requires n_value { named s n ≡ true }
     requires width_nonzero { 0 < s.width }
     ensures { result ≡ value_from (number (record_of s area.now n) 0) }
@@ -44,8 +43,7 @@ fn value_at(area: &[i32], s: Section, n: i64) -> i16
 }
 
 // One tool's wears.
-fn wear_at(area: &[i32], n: i64) -> Wear
-    requires area_len { length area.now ≡ area_length }
+fn wear_at(area: &[i32; AREA], n: i64) -> Wear
     requires n_value { tool_number n ≡ true }
     ensures { result ≡ at (held area.now) tools n }
 {
@@ -56,8 +54,7 @@ fn wear_at(area: &[i32], n: i64) -> Wear
 }
 
 // One zero offset.
-fn offset_at(area: &[i32], n: i64) -> Offset
-    requires area_len { length area.now ≡ area_length }
+fn offset_at(area: &[i32; AREA], n: i64) -> Offset
     requires n_value { offset_number n ≡ true }
     ensures { result ≡ at (held area.now) offsets n }
 {
@@ -71,8 +68,7 @@ fn offset_at(area: &[i32], n: i64) -> Offset
 }
 
 // The records that a measurement with tool offset reads. No call of a user.
-pub fn tool_records(area: &[i32], a: ToolMeasurement) -> ToolRecords
-    requires area_len { length area.now ≡ area_length }
+pub fn tool_records(area: &[i32; AREA], a: ToolMeasurement<i64>) -> ToolRecords
     requires tool_numbers { ToolNumbers a }
     ensures { result ≡ tool_read (held area.now) a }
 {
@@ -86,8 +82,7 @@ pub fn tool_records(area: &[i32], a: ToolMeasurement) -> ToolRecords
 }
 
 // The records that a measurement with zero offset reads. No call of a user.
-pub fn zero_records(area: &[i32], a: ZeroMeasurement) -> ZeroRecords
-    requires area_len { length area.now ≡ area_length }
+pub fn zero_records(area: &[i32; AREA], a: ZeroMeasurement<i64>) -> ZeroRecords
     requires zero_numbers { ZeroNumbers a }
     ensures { result ≡ zero_read (held area.now) a }
 {

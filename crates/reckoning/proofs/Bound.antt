@@ -7,7 +7,7 @@ use Rattle.package.specs.declared.found.Form.TheVariants.{Plane, Single, Double}
 use Rattle.package.specs.declared.found.Kind.{Kind}
 use Rattle.package.specs.declared.found.Branch.{Branch}
 use Rattle.package.specs.declared.found.Branch.TheVariants.{One, Two, Three, Four, Five}
-use Rattle.package.specs.declared.arguments.ToolMeasurement.{ToolMeasurement}
+use Rattle.package.specs.Given.{ToolMeasurement}
 use Rattle.package.specs.declared.found.ToolRecords.{ToolRecords}
 use Rattle.rules.specs.Kinds.{by_form}
 use Rattle.rules.specs.Probes.{sign}

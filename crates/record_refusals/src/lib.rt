@@ -2,30 +2,38 @@
 #![tactic(auto)]
 
 ghost use Rattle.std.specs.Prelude.{◌≡◌};
+ghost use Rattle.package.specs.Refusals.{refusal_in};
 ghost use Rattle.rules.specs.Refusals.{first};
 ghost use Rattle.rules.specs.Measuring.{record_rules};
 
 use package::found::Tests;
-use package::refusals::{BEYOND_TDIF, BEYOND_TSA, DONE, LEAVES_RANGE, NO_WIDTH, UNCALIBRATED};
+use package::refusals::{Refusal, refusal_in};
+
+// Whether the records allow a measurement, or the first refusal that they give.
+pub fn allowed(t: Tests) -> Result<(), Refusal>
+    ensures { refusal_in result ≡ first (record_rules t) }
+{
+    if !t.calibrated {
+        return Err(Refusal::Uncalibrated);
+    }
+    if !t.pairs {
+        return Err(Refusal::NoWidth);
+    }
+    if !t.tsa {
+        return Err(Refusal::BeyondTsa);
+    }
+    if !t.tdif {
+        return Err(Refusal::BeyondTdif);
+    }
+    if !t.range {
+        return Err(Refusal::LeavesRange);
+    }
+    Ok(())
+}
 
 // The first refusal that the records give.
 pub fn records_refusal(t: Tests) -> u32
     ensures { result ≡ first (record_rules t) }
 {
-    if !t.calibrated {
-        return UNCALIBRATED;
-    }
-    if !t.pairs {
-        return NO_WIDTH;
-    }
-    if !t.tsa {
-        return BEYOND_TSA;
-    }
-    if !t.tdif {
-        return BEYOND_TDIF;
-    }
-    if !t.range {
-        return LEAVES_RANGE;
-    }
-    DONE
+    refusal_in(allowed(t))
 }

@@ -2,63 +2,59 @@
 // Document 01, 'Measured sizes' and 'Alarm numbers'.
 #![tactic(auto)]
 
-ghost use Rattle.std.specs.Prelude.{◌≡◌, true, [], ◌∷◌};
+ghost use Rattle.std.specs.Prelude.{◌≡◌, [], ◌∷◌};
 ghost use Rattle.lists.specs.Each.{every};
+ghost use Rattle.package.specs.Ways.{axis_number};
 ghost use Rattle.rules.specs.Probes.{calibrated_in};
-ghost use Rattle.rules.specs.Sizes.{pair_in, numbers_ok, calibrated_ok, pairs_ok};
-ghost use Rattle.kinds.specs.Touches.{touch, Placed};
+ghost use Rattle.rules.specs.Sizes.{pair_in, calibrated_ok, pairs_ok};
+ghost use Rattle.kinds.specs.Touches.{touch};
 
-use kinds::{Across, both_pairs, single_pair};
-use package::arguments::Probing;
-use package::found::{Form, Kind, Sizes};
+use kind_tests::Probed;
+use kinds::{Across, Surfaces};
+use package::found::Sizes;
 use package::records::Probe;
-use probes::calibrated_in;
+use package::ways::Axis;
+use probes::calibrated_on;
 
 // Whether both directions of a pair are calibrated.
 fn pair_calibrated(x: Probe, p: Across) -> bool
-    requires { Placed (touch p.low).way × Placed (touch p.high).way }
     ensures { result ≡ every (λ t. calibrated_in x.status t.way) (touch p.low ∷ touch p.high ∷ []) }
 {
-    calibrated_in(x, p.low.axis, p.low.direction) & calibrated_in(x, p.high.axis, p.high.direction)
+    calibrated_on(x, p.low.way) & calibrated_on(x, p.high.way)
 }
 
-// Whether every direction that a measurement needs is calibrated. No call of a user.
+// Whether every direction that a measurement needs is calibrated.
 #[tactic(auto, unfolding(rules::specs::Sizes::calibrated_ok))]
-pub fn calibrated_ok(x: Probe, k: Kind, a: Probing) -> bool
-    requires { numbers_ok k a ≡ true }
-    ensures { result ≡ calibrated_ok x.status k a }
+pub fn calibrated(x: Probe, p: Probed) -> bool
+    ensures { result ≡ calibrated_ok x.status p.kind p.probing }
 {
-    let form = k.form;
-    match form {
-        Form::Plane => calibrated_in(x, a.axis, a.direction),
-        Form::Single => pair_calibrated(x, single_pair(k, a)),
-        Form::Double => {
-            let both = both_pairs(k, a);
+    match p.surfaces() {
+        Surfaces::Plane(touch) => calibrated_on(x, touch.way),
+        Surfaces::Pair(pair) => pair_calibrated(x, pair),
+        Surfaces::Pairs(both) => {
             pair_calibrated(x, both.abscissa) & pair_calibrated(x, both.ordinate)
         }
     }
 }
 
-// The width of the pair on axis n, 0 where none is measured.
-fn width_on(s: Sizes, n: i64) -> i64
-    ensures { result ≡ (pair_in s n).width }
+// The width of the pair on an axis, 0 where none is measured.
+fn width_on(s: Sizes, axis: Axis) -> i64
+    ensures { result ≡ (pair_in s (axis_number axis)).width }
 {
-    match n {
-        1 => s.abscissa.width,
-        2 => s.ordinate.width,
-        _ => 0,
+    match axis {
+        Axis::First => s.abscissa.width,
+        Axis::Second => s.ordinate.width,
+        Axis::Third => 0,
     }
 }
 
 // Whether every pair measured has its high surface above its low one.
-#[tactic(auto, unfolding(rules::specs::Sizes::pairs_ok))]
-pub fn widths_ok(k: Kind, a: Probing, s: Sizes) -> bool
-    ensures { result ≡ pairs_ok k a s }
+pub fn wide(p: Probed, s: Sizes) -> bool
+    ensures { result ≡ pairs_ok p.kind p.probing s }
 {
-    let form = k.form;
-    match form {
-        Form::Plane => true,
-        Form::Single => 1 <= width_on(s, a.axis),
-        Form::Double => (1 <= s.abscissa.width) & (1 <= s.ordinate.width),
+    match p.surfaces() {
+        Surfaces::Plane(_) => true,
+        Surfaces::Pair(pair) => 1 <= width_on(s, pair.low.way.axis),
+        Surfaces::Pairs(_) => (1 <= s.abscissa.width) & (1 <= s.ordinate.width),
     }
 }

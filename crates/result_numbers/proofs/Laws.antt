@@ -14,8 +14,7 @@ use Rattle.package.specs.declared.found.Found.{Found}
 use Rattle.package.specs.declared.found.Kind.{Kind}
 use Rattle.package.specs.declared.arguments.Probing.{Probing}
 use Rattle.package.specs.declared.found.Sizes.{Sizes}
-use Rattle.package.specs.declared.arguments.ToolMeasurement.{ToolMeasurement}
-use Rattle.package.specs.declared.arguments.ZeroMeasurement.{ZeroMeasurement}
+use Rattle.package.specs.Given.{ToolMeasurement, ZeroMeasurement}
 use Rattle.rules.specs.Sizes.{numbers_ok}
 use Rattle.rules.specs.Results.{size_entries, tool_entries, zero_entries}
 use Rattle.rules.specs.Passed.{LimitsPassed, ToolArgumentsPassed, ZeroArgumentsPassed}

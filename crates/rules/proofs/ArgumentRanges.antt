@@ -3,10 +3,8 @@ use Rattle.std.specs.Prelude.{◌≡◌, [], ◌∷◌, ℤ, pos}
 use Rattle.std.proofs.Math.Bool.{and-eq-true_iff}
 use Rattle.signed.specs.Ranges.{minus}
 use Rattle.signed.specs.RangeLaws.{within_is}
-use Rattle.package.specs.declared.arguments.Calibration.{Calibration}
-use Rattle.package.specs.declared.arguments.ToolMeasurement.{ToolMeasurement}
+use Rattle.package.specs.Given.{Calibration, ToolMeasurement, ZeroMeasurement}
 use Rattle.package.specs.declared.found.ToolRecords.{ToolRecords}
-use Rattle.package.specs.declared.arguments.ZeroMeasurement.{ZeroMeasurement}
 use Rattle.package.specs.declared.found.ZeroRecords.{ZeroRecords}
 use Rattle.rules.specs.Stores.{position_range}
 use Rattle.rules.specs.Refusals.{first}

@@ -6,10 +6,7 @@ use Rattle.std.proofs.Common.{sym, ◌∙◌, arith}
 use Rattle.signed.specs.Ranges.{eq_z}
 use Rattle.signed.specs.RangeLaws.{true_T, below_top}
 use Rattle.package.specs.declared.records.Wear.{Wear}
-use Rattle.package.specs.declared.arguments.CalibrationReading.{CalibrationReading}
-use Rattle.package.specs.declared.arguments.ToolReadings.{ToolReadings}
-use Rattle.package.specs.declared.arguments.ZeroMeasurement.{ZeroMeasurement}
-use Rattle.package.specs.declared.arguments.ZeroReadings.{ZeroReadings}
+use Rattle.package.specs.Given.{CalibrationReading, ToolReadings, ZeroMeasurement, ZeroReadings}
 use Rattle.package.specs.declared.found.ZeroRecords.{ZeroRecords}
 use Rattle.rules.specs.Stores.{Package, axis_number, direction_number, StoreName, probes, empiricals, means, tools, offsets, entries, at}
 use Rattle.rules.specs.StoreLaws.{pick_other, pick_either}

@@ -8,11 +8,9 @@ use Rattle.signed.specs.Ranges.{minus, within, size}
 use Rattle.signed.specs.RangeLaws.{lt_left, is_within, or_zero, ≤ℤ-trans}
 use Rattle.lists.specs.Each.{each_take, each_drop}
 use Rattle.package.specs.declared.records.Probe.{Probe}
-use Rattle.package.specs.declared.arguments.Calibration.{Calibration}
+use Rattle.package.specs.Given.{Calibration, ToolMeasurement, ZeroMeasurement}
 use Rattle.package.specs.declared.arguments.Limits.{Limits}
-use Rattle.package.specs.declared.arguments.ToolMeasurement.{ToolMeasurement}
 use Rattle.package.specs.declared.found.ToolRecords.{ToolRecords}
-use Rattle.package.specs.declared.arguments.ZeroMeasurement.{ZeroMeasurement}
 use Rattle.package.specs.declared.found.ZeroRecords.{ZeroRecords}
 use Rattle.package.specs.declared.found.Branch.TheVariants.{One, Two, Three, Four, Five}
 use Rattle.rules.specs.Stores.{Package, trigger_range, value_range, wear_range, offset_range, StoreName, probes, empiricals, means, tools, offsets, Holds, count_of, at}

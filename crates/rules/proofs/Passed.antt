@@ -1,6 +1,6 @@
 -- What is known of a calibration that no rule refuses, by name.
 use Rattle.std.specs.Prelude.{◌≡◌, Bool, ◌&&◌, ◌∷◌, ℤ}
-use Rattle.package.specs.declared.arguments.Calibration.{Calibration}
+use Rattle.package.specs.Given.{Calibration}
 use Rattle.rules.specs.Refusals.{◌unless◌, first}
 use Rattle.rules.specs.Calibration.{calibration_numbers, calibration_positions, calibration_limits, calibration_arguments_with, calibration_records, calibration_rules_with}
 use Rattle.rules.specs.Passed.{CalibrationPassed, calibration_passed, floats_good}

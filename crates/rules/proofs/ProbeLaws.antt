@@ -9,7 +9,7 @@ use Rattle.lists.specs.Every.{every_at}
 use Rattle.signed.specs.Ranges.{eq_z}
 use Rattle.signed.specs.RangeLaws.{eq_z_same}
 use Rattle.package.specs.declared.records.Probe.{Probe}
-use Rattle.package.specs.declared.arguments.Calibration.{Calibration}
+use Rattle.package.specs.Given.{Calibration}
 use Rattle.rules.specs.Stores.{axis_number, direction_number}
 use Rattle.rules.specs.Probes.{on, place_of, six_bits, marked, mark, calibrated_in}
 use Rattle.rules.specs.Calibration.{status_left, calibrated_probe}

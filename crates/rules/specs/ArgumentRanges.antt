@@ -6,11 +6,8 @@ use Rattle.lists.specs.Each.{Each, every, every_each, each_so}
 use Rattle.package.specs.declared.found.Form.{Form}
 use Rattle.package.specs.declared.found.Form.TheVariants.{Plane, Single, Double}
 use Rattle.package.specs.declared.found.Kind.{Kind}
-use Rattle.package.specs.declared.arguments.Raws.{Raws}
+use Rattle.package.specs.Given.{Raws, Calibration, ToolMeasurement, ZeroMeasurement}
 use Rattle.package.specs.declared.arguments.Probing.{Probing}
-use Rattle.package.specs.declared.arguments.Calibration.{Calibration}
-use Rattle.package.specs.declared.arguments.ToolMeasurement.{ToolMeasurement}
-use Rattle.package.specs.declared.arguments.ZeroMeasurement.{ZeroMeasurement}
 use Rattle.rules.specs.Stores.{position_range, width_range}
 use Rattle.rules.specs.StoreRanges.{Between}
 use Rattle.rules.specs.RefusalLaws.{all_of}

@@ -10,7 +10,8 @@ use Rattle.rules.specs.Stores.{Package}
 use Rattle.rules.specs.Refusals.{greatest_refusal}
 use Rattle.rules.specs.RefusalLaws.{Limited, first_small}
 use Rattle.rules.specs.Calibration.{calibration_arguments_with, calibration_records}
-use Rattle.rules.specs.Tool.{verdict, branch_number, decision, tool_arguments_with, deviation, tool_at}
+use Rattle.rules.specs.Tool.{verdict, decision, tool_arguments_with, deviation, tool_at}
+use Rattle.package.specs.Numbers.{branch_number}
 use Rattle.rules.specs.Zero.{zero_arguments_with}
 use Rattle.rules.specs.Results.{no_evaluation, evaluated_by}
 use Rattle.rules.specs.Calls.{Call, set_empirical, set_wear, set_offset, calibrate_reading, read_status, measure_tool_readings, measure_zero_readings, load, save, meaning, tool_read, rules, refusal, evaluation}

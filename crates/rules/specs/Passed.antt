@@ -5,12 +5,10 @@ use Rattle.std.proofs.Common.{arith, eqb-true}
 use Rattle.std.specs.Int.Signed.{le_z, le_z_yes}
 use Rattle.signed.specs.Ranges.{minus, within, size}
 use Rattle.signed.specs.RangeLaws.{true_T}
-use Rattle.package.specs.declared.arguments.Calibration.{Calibration}
+use Rattle.package.specs.Given.{Calibration, ToolMeasurement, ZeroMeasurement}
 use Rattle.package.specs.declared.arguments.Limits.{Limits}
 use Rattle.package.specs.declared.found.Tests.{Tests}
-use Rattle.package.specs.declared.arguments.ToolMeasurement.{ToolMeasurement}
 use Rattle.package.specs.declared.found.ToolRecords.{ToolRecords}
-use Rattle.package.specs.declared.arguments.ZeroMeasurement.{ZeroMeasurement}
 use Rattle.package.specs.declared.found.ZeroRecords.{ZeroRecords}
 use Rattle.rules.specs.Stores.{probe_number, axis_number, direction_number, value_number, tool_number, offset_number, value_range, wear_range, offset_range, trigger_range}
 use Rattle.rules.specs.Refusals.{Rule, ◌unless◌, first, rising}

@@ -11,7 +11,7 @@ use Rattle.signed.specs.RangeLaws.{true_T}
 use Rattle.lists.specs.Each.{Each, every}
 use Rattle.package.specs.declared.arguments.Reading.{Reading}
 use Rattle.package.specs.declared.arguments.Reading.TheVariants.{Whole, Reported}
-use Rattle.package.specs.declared.arguments.Readings.{Readings}
+use Rattle.package.specs.Given.{Readings}
 use Rattle.package.specs.declared.arguments.Probing.{Probing}
 use Rattle.package.specs.declared.found.Form.{Form}
 use Rattle.package.specs.declared.found.Form.TheVariants.{Plane, Single, Double}

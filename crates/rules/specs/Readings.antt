@@ -7,8 +7,7 @@ use Rattle.signed.specs.Rounding.{halves_up}
 use Rattle.package.specs.declared.arguments.Report.{Report}
 use Rattle.package.specs.declared.arguments.Reading.{Reading}
 use Rattle.package.specs.declared.arguments.Reading.TheVariants.{Whole, Reported}
-use Rattle.package.specs.declared.arguments.Readings.{Readings}
-use Rattle.package.specs.declared.arguments.Raws.{Raws}
+use Rattle.package.specs.Given.{Readings, Raws}
 use Rattle.package.specs.declared.arguments.Probing.{Probing}
 use Rattle.package.specs.declared.found.Kind.{Kind}
 use Rattle.rules.specs.Stores.{pick}

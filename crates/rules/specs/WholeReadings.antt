@@ -5,18 +5,15 @@ use Rattle.std.proofs.Math.Path.{ap}
 use Rattle.std.proofs.Math.Bool.{cond}
 use mathlib.Core.List.{List, ◌∷◌}
 use Rattle.signed.specs.Ranges.{within}
-use Rattle.package.specs.declared.arguments.CalibrationReading.{CalibrationReading}
-use Rattle.package.specs.declared.arguments.Raws.{Raws}
-use Rattle.package.specs.declared.arguments.ToolReadings.{ToolReadings}
-use Rattle.package.specs.declared.arguments.ZeroReadings.{ZeroReadings}
+use Rattle.package.specs.Given.{CalibrationReading, Raws, ToolReadings, ZeroReadings, tool_with, zero_with, calibration_with}
 use Rattle.rules.specs.Refusals.{first}
 use Rattle.rules.specs.Stores.{Package, probes, at}
-use Rattle.rules.specs.Calibration.{calibration_numbers, calibration_positions, calibration_limits, calibration_arguments, calibration_arguments_with, calibration_rules_with, trigger_for, calibration_with, calibration_at, good_calibration}
+use Rattle.rules.specs.Calibration.{calibration_numbers, calibration_positions, calibration_limits, calibration_arguments, calibration_arguments_with, calibration_rules_with, trigger_for, calibration_at, good_calibration}
 use Rattle.rules.specs.Sizes.{positions_ok}
 use Rattle.rules.specs.ReadingLaws.{by_numbers}
 use Rattle.rules.specs.Measuring.{room}
-use Rattle.rules.specs.Tool.{tool_numbers, tool_positions, limits_ok, tool_arguments, tool_arguments_with, tool_rules_with, tool_with, tool_at, good_tool, whole_tool}
-use Rattle.rules.specs.Zero.{zero_kind_of, zero_numbers, zero_arguments, zero_arguments_with, zero_rules_with, zero_with, zero_at, good_zero, whole_zero}
+use Rattle.rules.specs.Tool.{tool_numbers, tool_positions, limits_ok, tool_arguments, tool_arguments_with, tool_rules_with, tool_at, good_tool, whole_tool}
+use Rattle.rules.specs.Zero.{zero_kind_of, zero_numbers, zero_arguments, zero_arguments_with, zero_rules_with, zero_at, good_zero, whole_zero}
 use Rattle.rules.specs.Results.{evaluated_by, tool_results, zero_results}
 use Rattle.rules.specs.Changes.{Change, made_all}
 use Rattle.rules.specs.Calls.{Call, calibrate_reading, measure_tool_readings, measure_zero_readings, calibrate, measure_tool, measure_zero, meaning, tool_read, zero_read, rules, changes, reckoned, done, refusal, step, evaluation}

@@ -13,7 +13,7 @@ use Rattle.signed.specs.RangeLaws.{is_within}
 use Rattle.package.specs.declared.found.Kind.{Kind}
 use Rattle.package.specs.declared.found.Sizes.{Sizes}
 use Rattle.package.specs.declared.found.Decision.{Decision}
-use Rattle.package.specs.declared.arguments.ToolMeasurement.{ToolMeasurement}
+use Rattle.package.specs.Given.{ToolMeasurement}
 use Rattle.package.specs.declared.found.ToolRecords.{ToolRecords}
 use Rattle.package.specs.declared.found.Branch.{Branch}
 use Rattle.package.specs.declared.found.Branch.TheVariants.{One, Two, Three, Four, Five}

@@ -1,48 +1,70 @@
 // The refusals of a measurement with tool offset that its arguments give. Document 01, 'Tolerance, mean, correction' and 'Alarm numbers'.
 #![tactic(auto)]
 
-ghost use Rattle.std.specs.Prelude.{◌≡◌};
+ghost use Rattle.std.specs.Prelude.{◌≡◌, ◌&&◌, IfOk};
+ghost use Rattle.package.specs.Given.{tool_by};
+ghost use Rattle.package.specs.Refusals.{refusal_in};
 ghost use Rattle.rules.specs.Refusals.{first};
-ghost use Rattle.rules.specs.Tool.{tool_kind_of, tool_numbers, tool_arguments};
+ghost use Rattle.rules.specs.Stores.{tool_number};
+ghost use Rattle.rules.specs.Passed.{ToolArgumentsPassed};
+ghost use Rattle.rules.specs.Tool.{tool_kind_of, named_or_none, tool_arguments_with, tool_at, good_tool};
 
-use kind_tests::{numbers_ok, positions_ok};
+use floats::Raw;
+use kind_tests::Probed;
+use kinds::tool_kind;
 use package::arguments::ToolMeasurement;
 use package::found::Kind;
 use package::limits::{TOOL_COUNT, VALUE_COUNT, WEIGHT_LIMIT};
-use package::refusals::{DONE, NO_SUCH_NUMBER, OUTSIDE_RANGE, WRONG_LIMITS};
+use package::refusals::Refusal;
 use signed::in_range;
 use tolerance::limits_ok;
 
-fn tool_numbers_ok(k: Kind, a: ToolMeasurement) -> bool
-    requires { k ≡ tool_kind_of a }
-    ensures { result ≡ tool_numbers a }
-{
-    let probing = a.probing;
-    let stores = in_range(a.tool, 1, TOOL_COUNT);
-    in_range(probing.kind, 0, 4)
-        & numbers_ok(k, probing)
-        & stores
-        & in_range(a.ev, 0, VALUE_COUNT)
-        & in_range(a.mv, 0, VALUE_COUNT)
+// What a measurement with tool offset is given, tested, and its kind.
+#[derive(Clone, Copy)]
+pub struct PassedTool {
+    pub kind: Kind,
+    pub given: ToolMeasurement<i64>,
+    pub ghost named: { kind ≡ tool_kind_of given },
+    pub ghost passed: { ToolArgumentsPassed given },
 }
 
-// The first refusal that the arguments alone give; k is the measurement's kind. No call of a user.
-#[tactic(auto, unfolding(rules::specs::Tool::tool_arguments_with))]
-pub fn tool_refusal(k: Kind, a: ToolMeasurement) -> u32
-    requires { k ≡ tool_kind_of a }
-    ensures { result ≡ first (tool_arguments a) }
+impl PassedTool {
+    // What is probed.
+    pub fn probed(self) -> Probed
+        ensures { (result.kind ≡ self.kind) × (result.probing ≡ self.given.probing) × (result.raws ≡ self.given.raws) }
+    {
+        Probed {
+            kind: self.kind,
+            probing: self.given.probing,
+            raws: self.given.raws,
+        }
+    }
+}
+
+// Whether the tool and the values that a measurement names are numbers of their stores; number 0 names no value.
+fn stores_named(tool: i64, ev: i64, mv: i64) -> bool
+    ensures { result ≡ tool_number tool && named_or_none ev && named_or_none mv }
 {
-    let probing = a.probing;
-    let raws = a.raws;
-    let limits = a.limits;
-    if !tool_numbers_ok(k, a) {
-        return NO_SUCH_NUMBER;
+    in_range(tool, 1, TOOL_COUNT) & in_range(ev, 0, VALUE_COUNT) & in_range(mv, 0, VALUE_COUNT)
+}
+
+// The arguments of a measurement, with the positions that its raws give, or the first refusal that they give.
+#[tactic(auto, unfolding(rules::specs::Tool::tool_arguments_with))]
+pub fn passed_tool<T: Raw>(a: ToolMeasurement<T>) -> Result<PassedTool, Refusal>
+    ensures refusal { refusal_in result ≡ first (tool_arguments_with (good_tool (tool_by T.reading a)) (tool_at (tool_by T.reading a))) }
+    ensures given { IfOk result (λ p. p.given ≡ tool_at (tool_by T.reading a)) }
+{
+    let kind = tool_kind(a.probing.kind)?;
+    if !stores_named(a.tool, a.ev, a.mv) {
+        return Err(Refusal::NoSuchNumber);
     }
-    if !(positions_ok(k, probing, raws) & in_range(a.k, 1, WEIGHT_LIMIT)) {
-        return OUTSIDE_RANGE;
+    let probed = Probed::tested(kind, a.probing, a.raws)?;
+    if !in_range(a.k, 1, WEIGHT_LIMIT) {
+        return Err(Refusal::OutsideRange);
     }
-    if !limits_ok(limits) {
-        return WRONG_LIMITS;
+    if !limits_ok(a.limits) {
+        return Err(Refusal::WrongLimits);
     }
-    DONE
+    let given = a.with_raws(probed.raws);
+    Ok(PassedTool { kind, given })
 }

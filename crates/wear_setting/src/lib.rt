@@ -1,30 +1,42 @@
 // A tool's wears set, in place on the area that the caller lends. Document 01, 'Units and stores'.
 #![tactic(auto)]
 
-ghost use Rattle.std.specs.Prelude.{◌≡◌};
+ghost use Rattle.std.specs.Prelude.{◌≡◌, [], ◌∷◌, IfOk};
+ghost use Rattle.package.specs.Refusals.{refusal_in};
+ghost use Rattle.rules.specs.Refusals.{first};
+ghost use Rattle.rules.specs.Settings.{wear_rules};
 ghost use Rattle.rules.specs.Calls.{set_wear};
 ghost use Rattle.area.specs.Called.{unmeasured, called};
 
-use area::{AREA, TOOLS, WRONG_AREA};
+use area::{AREA, TOOLS};
 use layout::put_record;
 use package::limits::{TOOL_COUNT, WEAR_LIMIT};
-use package::refusals::{DONE, NO_SUCH_NUMBER, OUTSIDE_RANGE};
+use package::refusals::Refusal;
 use signed::in_range;
 
-// Replaces one tool's two wears.
-pub fn set_wear(area: &mut [i32], tool: i64, radius: i64, length: i64) -> u32
-    ensures { unmeasured result area.new ≡ called area.old (set_wear tool radius length) }
+// Wears that may be set, as the area holds them.
+fn passed_wears(tool: i64, radius: i64, length: i64) -> Result<[i32; 2], Refusal>
+    ensures number { refusal_in result ≡ first (wear_rules tool radius length) }
+    ensures kept { IfOk result (λ w. w ≡ radius ∷ length ∷ []) }
 {
-    if area.len() != AREA {
-        return WRONG_AREA;
-    }
     if !in_range(tool, 1, TOOL_COUNT) {
-        return NO_SUCH_NUMBER;
+        return Err(Refusal::NoSuchNumber);
     }
     if !(in_range(radius, -WEAR_LIMIT, WEAR_LIMIT) & in_range(length, -WEAR_LIMIT, WEAR_LIMIT)) {
-        return OUTSIDE_RANGE;
+        return Err(Refusal::OutsideRange);
     }
-    let numbers = [radius as i32, length as i32];
-    put_record(area, TOOLS, tool, &numbers);
-    DONE
+    Ok([radius as i32, length as i32])
+}
+
+// Replaces one tool's two wears.
+#[tactic(auto, using(area::specs::CalledLaws::call_wrong))]
+pub fn set_wear(area: &mut [i32], tool: i64, radius: i64, length: i64) -> Result<(), Refusal>
+    ensures { unmeasured (refusal_in result) area.new ≡ called area.old (set_wear tool radius length) }
+{
+    let Some(whole) = area.as_mut_array::<AREA>() else {
+        return Err(Refusal::WrongArea);
+    };
+    let wears = passed_wears(tool, radius, length)?;
+    put_record(whole, TOOLS, tool, &wears);
+    Ok(())
 }

@@ -1,6 +1,5 @@
-// What the calls answer, row by row. Rows stand in the files of data/, each under the 64 KiB that one read takes, so a file a topic: setting and
-// calibrating, measuring, series of parts, limits, what these leave, and float reports. A row gives a line, and the line that is expected is written from
-// the papers.
+// What the calls answer, row by row. Rows stand in the files of data/, a file a topic: setting and calibrating, measuring, series of parts, limits, what
+// these leave, and float reports. A row gives a line, and the line that is expected is written from the papers.
 //
 // A row is a call as a job writes it, or a word and its numbers, each within i64:
 //   E,ev,value: refusal EV v
@@ -24,25 +23,19 @@
 //   report,<3 numbers>: C with the bits of X, Y and Z in place of its raw
 #![tactic(auto)]
 
+mod answers;
 mod measure;
 mod print;
 mod read;
-mod reports;
-mod run;
+mod rows;
 
 use area::AREA;
-use file_input::read_full;
-use print::text;
-use run::{ANSWER, REFUSAL, SILENT, WHOLE};
 use std::fs::File;
 use std::io;
 use std::rt::Files;
 
 // What each number of an area is before the first row.
 const UNSET: i32 = 7;
-
-// The most bytes of a file, and one more, so that a longer one is seen.
-const MOST_READ: usize = 65_536;
 
 fn main(rt: HostRuntime) -> io::Result<()> {
     file(&rt, "setup.txt")?;
@@ -53,87 +46,18 @@ fn main(rt: HostRuntime) -> io::Result<()> {
     file(&rt, "reports.txt")
 }
 
-fn file(rt: &(impl Files + Print), path: &str) -> io::Result<()> {
-    let mut buffer = [0u8; MOST_READ];
-    let size = match File::open(rt, path) {
-        Ok(mut input) => read_full(&mut input, &mut buffer)?,
-        Err(_) => 0,
+// A file that is not there, or that is empty, shows ?.
+fn file(rt: &(impl Files + Print + AllocGlobal), name: &str) -> io::Result<()> {
+    let text = match File::open(rt, name) {
+        Ok(input) => io::read_to_string(rt.alloc(), input)?,
+        Err(_) => String::new(rt.alloc()),
     };
+    if text.is_empty() {
+        return println!(rt; "{name}: ?");
+    }
     let mut area = [UNSET; AREA];
-    rows(rt, &mut area, &buffer[..size])?;
-    // not there, or longer than the buffer
-    if (size == 0) | (size == buffer.len()) {
-        text(rt, path.as_bytes())?;
-        text(rt, b": ?\n")?;
-    }
-    Ok(())
-}
-
-fn rows(rt: &impl Print, area: &mut [i32], s: &[u8]) -> io::Result<()> {
-    for line in s.split(|b| *b == b'\n') {
-        row(rt, area, line)?;
-    }
-    Ok(())
-}
-
-fn row(rt: &impl Print, area: &mut [i32], s: &[u8]) -> io::Result<()> {
-    if s.len() == 0 {
-        return Ok(());
-    }
-    let mark = s[0];
-    match mark {
-        b'#' => Ok(()),
-        b'"' => words(rt, read::behind(s, 0)),
-        ANSWER | REFUSAL | SILENT => line(rt, area, mark, read::behind(s, 0)),
-        _ => line(rt, area, WHOLE, s),
-    }
-}
-
-fn words(rt: &impl Print, s: &[u8]) -> io::Result<()> {
-    if s.len() == 0 {
-        text(rt, b"\n")
-    } else {
-        text(rt, s)
-    }
-}
-
-fn line(rt: &impl Print, area: &mut [i32], mark: u8, s: &[u8]) -> io::Result<()> {
-    let title = read::up_to(s, b'|');
-    let rest = read::behind(s, title.len());
-    if rest.len() == 0 {
-        return call(rt, area, mark, title, title, rest);
-    }
-    let given = read::up_to(rest, b'|');
-    call(
-        rt,
-        area,
-        mark,
-        title,
-        given,
-        read::behind(rest, given.len()),
-    )
-}
-
-fn call(
-    rt: &impl Print,
-    area: &mut [i32],
-    mark: u8,
-    title: &[u8],
-    given: &[u8],
-    tail: &[u8],
-) -> io::Result<()> {
-    let word = read::up_to(given, b',');
-    let f = read::read_fields(read::behind(given, word.len()));
-    around(rt, mark, title, b":")?;
-    run::run(rt, area, mark, title, word, f)?;
-    around(rt, mark, tail, b"\n")
-}
-
-// Text around what a row shows.
-fn around(rt: &impl Print, mark: u8, s: &[u8], end: &[u8]) -> io::Result<()> {
-    if (mark == WHOLE) | (mark == ANSWER) {
-        text(rt, s)?;
-        text(rt, end)?;
+    for line in text.lines() {
+        rt.print(rows::line_shown(rt.alloc(), &mut area, line)?)?;
     }
     Ok(())
 }

@@ -1,174 +1,181 @@
 // Rows that measure.
-use crate::print::{Style, named, part, record, text};
-use crate::read::{Fields, same};
-use crate::reports::{Reports, reports_of};
-use crate::run::answered;
-use crate::{print, read};
-use area::{MEANS, OFFSETS, TOOLS};
-use boundary::{
-    mezhtolik_measure_tool, mezhtolik_measure_tool_readings, mezhtolik_measure_zero,
-    mezhtolik_measure_zero_readings,
-};
-use layout::write_numbers;
+use crate::answers::Answer;
+use crate::print::{Named, Places, Plain, record};
+use crate::read::{RowError, TitleWord, numbers, word_and_fields};
+use area::{AREA, MEANS, OFFSETS, TOOLS};
+use floats::float_of_bits;
+use lent_measuring::{lent_tool, lent_tool_readings, lent_zero, lent_zero_readings, measure};
 use measuring::Decided;
-use std::io;
+use std::alloc::{AllocError, Global};
+use std::array;
 
-// The places of a result array, those of the manual's first array, and the greatest length of an array here.
+// The numbers of a result array, and those of the manual's first array.
 const RESULTS: usize = 42;
 
 const OVR: usize = 32;
 
-const MOST_RESULTS: usize = 50;
+// The deviation D and the correction c in it.
+const DEVIATION: usize = 16;
 
-// What an array holds before it is lent, so that a number that is not written is seen.
-const COUNTED: [[i32; 10]; 5] = [
-    [1001, 1002, 1003, 1004, 1005, 1006, 1007, 1008, 1009, 1010],
-    [1011, 1012, 1013, 1014, 1015, 1016, 1017, 1018, 1019, 1020],
-    [1021, 1022, 1023, 1024, 1025, 1026, 1027, 1028, 1029, 1030],
-    [1031, 1032, 1033, 1034, 1035, 1036, 1037, 1038, 1039, 1040],
-    [1041, 1042, 1043, 1044, 1045, 1046, 1047, 1048, 1049, 1050],
-];
+const CORRECTION: usize = 20;
 
 // Fields of both letters, counted from 0: the tool or zero offset, and the mean value.
 const RECORD: usize = 11;
 
 const MV: usize = 13;
 
-// The length of the array that is lent, and the place in it.
+#[derive(Clone, Copy, Debug, PartialEq, Eq)]
+pub enum Way {
+    Tool,
+    Zero,
+}
+
+// A row that measures: in which way, and its fields.
 #[derive(Clone, Copy)]
-struct Room {
-    length: usize,
-    place: usize,
+pub struct Measuring<'a> {
+    way: Way,
+    given: &'a [i64],
 }
 
-// Measures with tool or with zero offset, and shows what was left as the title's word asks.
-pub fn measured(
-    rt: &impl Print,
-    area: &mut [i32],
-    mark: u8,
-    title: &[u8],
-    tool: bool,
-    f: Fields,
-) -> io::Result<()> {
-    let mut results = counted();
-    let room = room_of(title);
-    let d = lent(area, title, tool, f, &mut results, room);
-    if answered(rt, mark, d.refusal)? {
-        print::answer(rt, d.branch)?;
-        print::answer(rt, d.verdict)?;
-        left(
-            rt,
-            &area[..],
-            title,
-            tool,
-            f,
-            part(&results, 0, room.length),
-        )?;
+impl<'a> Measuring<'a> {
+    pub fn by(way: Way, given: &'a [i64]) -> Measuring<'a> {
+        Measuring { way, given }
     }
-    Ok(())
+
+    // Measures, and shows what was left as the title's word asks.
+    pub fn measured(
+        self,
+        alloc: Global,
+        area: &mut [i32; AREA],
+        title: &str,
+    ) -> Result<Answer, RowError> {
+        let (word, fields) = word_and_fields(title);
+        let mut results = array::from_fn::<i32, RESULTS, _>(|i| 1001 + i as i32);
+        match TitleWord::of(word) {
+            Some(TitleWord::Room) => self.in_room(alloc, area, fields),
+            Some(TitleWord::Part) => {
+                let decided = self.measure(area, &mut results, 0);
+                answered(alloc, decided, self.part(alloc, area, &results)?)
+            }
+            Some(TitleWord::Reports) => {
+                let decided = self.reported(alloc, area, fields, &mut results)?;
+                answered(alloc, decided, self.left(alloc, area, &results)?)
+            }
+            Some(TitleWord::Report) | None => {
+                let decided = self.measure(area, &mut results, 0);
+                answered(alloc, decided, self.left(alloc, area, &results)?)
+            }
+        }
+    }
+
+    // A title room,length,place has an array of at most 50 numbers lent, and the place in it.
+    fn in_room(
+        self,
+        alloc: Global,
+        area: &mut [i32; AREA],
+        fields: &str,
+    ) -> Result<Answer, RowError> {
+        let room = numbers::<usize>(alloc, fields)?;
+        let &[length, place, ..] = room.as_slice() else {
+            return Err(RowError::Unread);
+        };
+        let mut array = (1001..1051).take(length).collect::<Vec<i32>>(alloc)?;
+        if array.len() < length {
+            return Err(RowError::Unread);
+        }
+        let decided = self.measure(area, array.as_mut_slice(), place);
+        let left = format!(in alloc; " array{}", Plain(array.as_slice()))?;
+        answered(alloc, decided, left)
+    }
+
+    // A title reports,marks,.. says which raws are reports, and the bits of X, Y and Z of each.
+    fn reported(
+        self,
+        alloc: Global,
+        area: &mut [i32; AREA],
+        fields: &str,
+        array: &mut [i32],
+    ) -> Result<Decided, RowError> {
+        let reports = numbers::<u32>(alloc, fields)?;
+        let &[marks, ref bits @ ..] = reports.as_slice() else {
+            return Err(RowError::Unread);
+        };
+        let floats = bits
+            .iter()
+            .map(|b| float_of_bits(*b))
+            .collect::<Vec<f32>>(alloc)?;
+        Ok(self.measure_readings(area, floats.as_slice(), marks, array))
+    }
+
+    fn measure(self, area: &mut [i32; AREA], array: &mut [i32], place: usize) -> Decided {
+        match self.way {
+            Way::Tool => measure(area, lent_tool(self.given), array, place).into(),
+            Way::Zero => measure(area, lent_zero(self.given), array, place).into(),
+        }
+    }
+
+    fn measure_readings(
+        self,
+        area: &mut [i32; AREA],
+        floats: &[f32],
+        marks: u32,
+        array: &mut [i32],
+    ) -> Decided {
+        match self.way {
+            Way::Tool => {
+                measure(area, lent_tool_readings(self.given, floats, marks), array, 0).into()
+            }
+            Way::Zero => {
+                measure(area, lent_zero_readings(self.given, floats, marks), array, 0).into()
+            }
+        }
+    }
+
+    // The records that a measurement may change, after it.
+    fn records(self, alloc: Global, area: &[i32; AREA]) -> Result<String, AllocError> {
+        match self.way {
+            Way::Tool => {
+                let mv = Named("MV", record(area, MEANS, self.field(MV)));
+                let wear = Named("wear", record(area, TOOLS, self.field(RECORD)));
+                format!(in alloc; "{mv}{wear}")
+            }
+            Way::Zero => Named("axes", record(area, OFFSETS, self.field(RECORD))).to_string(alloc),
+        }
+    }
+
+    // What a measurement did in a series.
+    fn part(
+        self,
+        alloc: Global,
+        area: &[i32; AREA],
+        results: &[i32; RESULTS],
+    ) -> Result<String, AllocError> {
+        let d = results[DEVIATION];
+        let c = results[CORRECTION];
+        let mv = Named("MV", record(area, MEANS, self.field(MV)));
+        let wears = record(area, TOOLS, self.field(RECORD));
+        let radius = Named("radius", wears.and_then(|w| w.get(..1)));
+        format!(in alloc; " D {d}{mv} c {c}{radius}")
+    }
+
+    fn left(
+        self,
+        alloc: Global,
+        area: &[i32; AREA],
+        results: &[i32; RESULTS],
+    ) -> Result<String, AllocError> {
+        let records = self.records(alloc, area)?;
+        let (ovr, ovi) = results.split_at(OVR);
+        format!(in alloc; "{records} OVR{} OVI{}", Places(ovr), Places(ovi))
+    }
+
+    // A field of the row, 0 where there is none.
+    fn field(self, i: usize) -> i64 {
+        self.given.get(i).copied().unwrap_or(0)
+    }
 }
 
-// A title room,length,place says both.
-fn room_of(title: &[u8]) -> Room {
-    let word = read::up_to(title, b',');
-    let mut room = Room {
-        length: RESULTS,
-        place: 0,
-    };
-    if same(word, b"room") {
-        let f = read::read_fields(read::behind(title, word.len()));
-        room.length = f.sizes[0];
-        room.place = f.sizes[1];
-    }
-    room
-}
-
-fn lent(
-    area: &mut [i32],
-    title: &[u8],
-    tool: bool,
-    f: Fields,
-    results: &mut [i32],
-    room: Room,
-) -> Decided {
-    let numbers = f.numbers;
-    let given = read::first_numbers(&numbers, f.count);
-    let word = read::up_to(title, b',');
-    if same(word, b"reports") {
-        let r = reports_of(read::read_fields(read::behind(title, word.len())));
-        return reported(area, tool, given, r, results);
-    }
-    let length = room.length;
-    if length <= results.len() {
-        return measure(area, tool, given, &mut results[0..length], room.place);
-    }
-    measure(area, tool, given, results, room.place)
-}
-
-fn measure(area: &mut [i32], tool: bool, given: &[i64], results: &mut [i32], at: usize) -> Decided {
-    if tool {
-        return mezhtolik_measure_tool(area, given, results, at);
-    }
-    mezhtolik_measure_zero(area, given, results, at)
-}
-
-fn reported(
-    area: &mut [i32],
-    tool: bool,
-    given: &[i64],
-    r: Reports,
-    results: &mut [i32],
-) -> Decided {
-    let floats = r.floats;
-    if tool {
-        return mezhtolik_measure_tool_readings(area, given, &floats, r.marks, results, 0);
-    }
-    mezhtolik_measure_zero_readings(area, given, &floats, r.marks, results, 0)
-}
-
-// What a measurement left: room shows the array; part what it did in a series, D and c being OVR[16] and OVR[20].
-fn left(
-    rt: &impl Print,
-    area: &[i32],
-    title: &[u8],
-    tool: bool,
-    f: Fields,
-    results: &[i32],
-) -> io::Result<()> {
-    let word = read::up_to(title, b',');
-    if same(word, b"room") {
-        text(rt, b" array")?;
-        return print::each(rt, results, Style::Plain);
-    }
-    if same(word, b"part") {
-        named(rt, b"D", part(results, 16, 1))?;
-        named(rt, b"MV", record(area, MEANS, f.sizes[MV]))?;
-        named(rt, b"c", part(results, 20, 1))?;
-        let wears = record(area, TOOLS, f.sizes[RECORD]);
-        return named(rt, b"radius", part(wears, 0, 1));
-    }
-    records(rt, area, tool, f)?;
-    text(rt, b" OVR")?;
-    print::each(rt, part(results, 0, OVR), Style::Places)?;
-    text(rt, b" OVI")?;
-    print::each(rt, part(results, OVR, RESULTS - OVR), Style::Places)
-}
-
-fn records(rt: &impl Print, area: &[i32], tool: bool, f: Fields) -> io::Result<()> {
-    if tool {
-        named(rt, b"MV", record(area, MEANS, f.sizes[MV]))?;
-        named(rt, b"wear", record(area, TOOLS, f.sizes[RECORD]))
-    } else {
-        named(rt, b"axes", record(area, OFFSETS, f.sizes[RECORD]))
-    }
-}
-
-fn counted() -> [i32; MOST_RESULTS] {
-    let mut r = [0i32; MOST_RESULTS];
-    write_numbers(&mut r, 0, &COUNTED[0]);
-    write_numbers(&mut r, 10, &COUNTED[1]);
-    write_numbers(&mut r, 20, &COUNTED[2]);
-    write_numbers(&mut r, 30, &COUNTED[3]);
-    write_numbers(&mut r, 40, &COUNTED[4]);
-    r
+fn answered(alloc: Global, d: Decided, left: String) -> Result<Answer, RowError> {
+    let shown = format!(in alloc; " {} {}{left}", d.branch, d.verdict)?;
+    Ok(Answer::refused(d.refusal, shown))
 }

@@ -1,168 +1,136 @@
-// Text, numbers and records on standard output.
-ghost use Rattle.std.specs.Prelude.{◌≤◌, ◌<◌};
+// The records of an area, and how their numbers are shown.
+ghost use Rattle.std.specs.Prelude.{◌≤◌};
 ghost use Rattle.layout.specs.Layout.{end};
 ghost use Rattle.area.specs.Table.{area_length};
 
+use area::AREA;
 use layout::Section;
-use std::io;
+use package::records::Status;
+use std::fmt;
 
-// How numbers are written: all; those that are not 0, with their indices; two by two, all or those that are not both 0, with their numbers.
-#[derive(Clone, Copy)]
-pub enum Style {
-    Plain,
-    Places,
-    Pairs,
-    Numbered,
-}
-
-pub fn text(rt: &impl Print, s: &[u8]) -> io::Result<()> {
-    rt.write_all(s)
-}
-
-pub fn unsigned(rt: &impl Print, v: u64) -> io::Result<()> {
-    rt.print(v)
-}
-
-fn number(rt: &impl Print, v: i32) -> io::Result<()> {
-    if v < 0 {
-        text(rt, b"-")?;
-    }
-    unsigned(rt, size(v))
-}
-
-fn size(v: i32) -> u64 {
-    u64::from(v.unsigned_abs())
-}
-
-// A refusal, a branch or a verdict.
-pub fn answer(rt: &impl Print, n: u32) -> io::Result<()> {
-    text(rt, b" ")?;
-    unsigned(rt, u64::from(n))
-}
-
-// So many numbers from a place on; none where these are not there.
-pub fn part(values: &[i32], from: usize, count: usize) -> &[i32] {
-    if from <= values.len() {
-        if count <= values.len() - from {
-            return &values[from..from + count];
-        }
-    }
-    &values[0..0]
-}
-
-// The record of a section with this number, counted from 1; none where there is no such record. No call of a user.
-pub fn record(area: &[i32], s: Section, n: usize) -> &[i32]
+// The record of a section with this number, counted from 1. No call of a user.
+pub fn record(area: &[i32; AREA], s: Section, n: i64) -> Option<&[i32]>
     requires { end s ≤ area_length }
 {
-    if n == 0 {
-        return part(area, 0, 0);
+    let i = usize::try_from(n).ok()?.checked_sub(1)?;
+    if s.count <= i {
+        return None;
     }
-    if s.count < n {
-        return part(area, 0, 0);
-    }
-    let width = s.width;
-    part(area, start(s, n - 1), width)
-}
-
-fn start(s: Section, i: usize) -> usize
-    requires { (end s ≤ area_length) × (i < s.count) }
-{
-    s.at + s.width * i
+    let at = s.at + s.width * i;
+    Some(&area[at..at + s.width])
 }
 
 // All numbers of a section. No call of a user.
-pub fn section(area: &[i32], s: Section) -> &[i32]
+pub fn section(area: &[i32; AREA], s: Section) -> &[i32]
     requires { end s ≤ area_length }
 {
-    part(area, s.at, s.width * s.count)
+    &area[s.at..s.at + s.width * s.count]
 }
+
+// All numbers, each after a space.
+#[derive(Clone, Copy)]
+pub struct Plain<'a>(pub &'a [i32]);
+
+// The numbers that are not 0, with their indices.
+#[derive(Clone, Copy)]
+pub struct Places<'a>(pub &'a [i32]);
+
+// Two by two.
+#[derive(Clone, Copy)]
+pub struct Pairs<'a>(pub &'a [i32]);
+
+// Two by two with their numbers, where not both are 0.
+#[derive(Clone, Copy)]
+pub struct Wears<'a>(pub &'a [i32]);
 
 // Numbers after their name; nothing where there are none.
-pub fn named(rt: &impl Print, name: &[u8], values: &[i32]) -> io::Result<()> {
-    if 0 < values.len() {
-        text(rt, b" ")?;
-        text(rt, name)?;
-        each(rt, values, Style::Plain)?;
-    }
-    Ok(())
-}
+#[derive(Clone, Copy)]
+pub struct Named<'a>(pub &'a str, pub Option<&'a [i32]>);
 
-// The first and the last of numbers after their name.
-pub fn ends(rt: &impl Print, name: &[u8], values: &[i32]) -> io::Result<()> {
-    if 0 < values.len() {
-        named(rt, name, part(values, 0, 1))?;
-        each(rt, part(values, values.len() - 1, 1), Style::Plain)?;
-    }
-    Ok(())
-}
+// The first and the last of numbers after their name; nothing where there are none.
+#[derive(Clone, Copy)]
+pub struct Ends<'a>(pub &'a str, pub &'a [i32]);
 
-pub fn each(rt: &impl Print, values: &[i32], style: Style) -> io::Result<()> {
-    for i in 0..values.len() {
-        one(rt, values, i, style)?;
-    }
-    Ok(())
-}
+// The bits of a probe's status and the number of directions calibrated.
+#[derive(Clone, Copy)]
+pub struct Directions(pub Status);
 
-fn one(rt: &impl Print, values: &[i32], i: usize, style: Style) -> io::Result<()> {
-    match style {
-        Style::Plain => plain(rt, at(values, i)),
-        Style::Places => place(rt, i, at(values, i)),
-        Style::Pairs => pair(rt, values, i, false),
-        Style::Numbered => pair(rt, values, i, true),
-    }
-}
+// Bytes in hexadecimal, each after a space.
+#[derive(Clone, Copy)]
+pub struct Bytes<'a>(pub &'a [u8]);
 
-fn at(values: &[i32], i: usize) -> i32 {
-    if i < values.len() { values[i] } else { 0 }
-}
-
-fn plain(rt: &impl Print, v: i32) -> io::Result<()> {
-    text(rt, b" ")?;
-    number(rt, v)
-}
-
-fn place(rt: &impl Print, i: usize, v: i32) -> io::Result<()> {
-    if v != 0 {
-        numbered(rt, i)?;
-        number(rt, v)?;
-    }
-    Ok(())
-}
-
-fn numbered(rt: &impl Print, i: usize) -> io::Result<()> {
-    text(rt, b" ")?;
-    unsigned(rt, i as u64)?;
-    text(rt, b"=")
-}
-
-// A pair, at the index of its second number.
-fn pair(rt: &impl Print, values: &[i32], i: usize, few: bool) -> io::Result<()> {
-    if i % 2 == 0 {
-        return Ok(());
-    }
-    let v = at(values, i - 1);
-    let w = at(values, i);
-    if few {
-        if (v == 0) & (w == 0) {
-            return Ok(());
+impl fmt::Display for Plain<'_> {
+    fn fmt<W: fmt::Write>(&self, f: &mut fmt::Formatter<W>) -> fmt::Result {
+        for v in self.0 {
+            write!(f, " {v}")?;
         }
-        numbered(rt, i / 2 + 1)?;
-        number(rt, v)?;
-    } else {
-        plain(rt, v)?;
+        Ok(())
     }
-    text(rt, b"/")?;
-    number(rt, w)
 }
 
-// Each byte after a space.
-pub fn hexadecimal(rt: &impl Print, bytes: &[u8]) -> io::Result<()> {
-    for b in bytes {
-        byte(rt, *b)?;
+impl fmt::Display for Places<'_> {
+    fn fmt<W: fmt::Write>(&self, f: &mut fmt::Formatter<W>) -> fmt::Result {
+        for (i, v) in self.0.iter().enumerate() {
+            if *v != 0 {
+                write!(f, " {i}={v}")?;
+            }
+        }
+        Ok(())
     }
-    Ok(())
 }
 
-fn byte(rt: &impl Print, b: u8) -> io::Result<()> {
-    print!(rt; " {b:02x}")
+impl fmt::Display for Pairs<'_> {
+    fn fmt<W: fmt::Write>(&self, f: &mut fmt::Formatter<W>) -> fmt::Result {
+        let (pairs, _) = self.0.as_chunks::<2>();
+        for [v, w] in pairs {
+            write!(f, " {v}/{w}")?;
+        }
+        Ok(())
+    }
+}
+
+impl fmt::Display for Wears<'_> {
+    fn fmt<W: fmt::Write>(&self, f: &mut fmt::Formatter<W>) -> fmt::Result {
+        let (pairs, _) = self.0.as_chunks::<2>();
+        for (n, pair) in (1..=pairs.len()).zip(pairs) {
+            let [v, w] = *pair;
+            if (v != 0) | (w != 0) {
+                write!(f, " {n}={v}/{w}")?;
+            }
+        }
+        Ok(())
+    }
+}
+
+impl fmt::Display for Named<'_> {
+    fn fmt<W: fmt::Write>(&self, f: &mut fmt::Formatter<W>) -> fmt::Result {
+        match self.1 {
+            None | Some([]) => Ok(()),
+            Some(values) => write!(f, " {}{}", self.0, Plain(values)),
+        }
+    }
+}
+
+impl fmt::Display for Ends<'_> {
+    fn fmt<W: fmt::Write>(&self, f: &mut fmt::Formatter<W>) -> fmt::Result {
+        match (self.1.first(), self.1.last()) {
+            (Some(first), Some(last)) => write!(f, " {} {first} {last}", self.0),
+            _ => Ok(()),
+        }
+    }
+}
+
+impl fmt::Display for Directions {
+    fn fmt<W: fmt::Write>(&self, f: &mut fmt::Formatter<W>) -> fmt::Result {
+        write!(f, " bits {} count {}", self.0.bits, self.0.count)
+    }
+}
+
+impl fmt::Display for Bytes<'_> {
+    fn fmt<W: fmt::Write>(&self, f: &mut fmt::Formatter<W>) -> fmt::Result {
+        for b in self.0 {
+            write!(f, " {b:02x}")?;
+        }
+        Ok(())
+    }
 }

@@ -1,82 +1,72 @@
 // Measurements with zero offset, in place on a lent area. Document 01, 'Zero offset kinds'.
 #![tactic(auto)]
 
-ghost use Rattle.std.specs.Prelude.{◌≡◌, [], ◌∷◌, length};
+ghost use Rattle.std.specs.Prelude.{◌≡◌, [], ◌∷◌};
+ghost use Rattle.package.specs.Given.{zero_by};
 ghost use Rattle.rules.specs.Stores.{offsets};
 ghost use Rattle.rules.specs.Changes.{write};
-ghost use Rattle.rules.specs.Measuring.{lent};
-ghost use Rattle.rules.specs.Zero.{whole_zero};
-ghost use Rattle.rules.specs.Calls.{measure_zero};
 ghost use Rattle.rules.specs.Passed.{ZeroNumbers};
-ghost use Rattle.area.specs.Table.{area_length};
 ghost use Rattle.area.specs.Renewed.{renewed_all};
-ghost use Rattle.area.specs.Called.{answered, called};
-ghost use Rattle.measuring.specs.Reply.{zero, measured_as, measured_on};
+ghost use Rattle.area.specs.Called.{answered_by};
+ghost use Rattle.measuring.specs.Reply.{zero, measured_as, measured_on, results_left};
 
-use area::{AREA, OFFSETS, WRONG_AREA};
-use evaluation::zero_evaluation;
+use area::{AREA, OFFSETS};
+use evaluation::evaluated;
+use floats::Raw;
 use layout::put_record;
-use measuring::{not_answered, refused};
+use measuring::answered;
 use package::arguments::ZeroMeasurement;
-use package::found::Answer;
+use package::found::Evaluation;
 use package::records::Offset;
-use package::refusals::DONE;
+use package::refusals::Refusal;
 use reading::zero_records;
-use record_refusals::records_refusal;
-use result_numbers::put_zero_numbers;
-use sizes::sizes_of;
-use zero_offset::{offset_left, zero_tests};
-use zero_refusals::{zero_kind_of, zero_refusal};
+use record_refusals::allowed;
+use result_numbers::DoneZero;
+use results::put_numbers;
+use zero_offset::find;
+use zero_refusals::passed_zero;
 
 // Writes the zero offset that a measurement leaves.
-fn put_zero(area: &mut [i32], a: ZeroMeasurement, o: Offset)
-    requires area_len { length area.old ≡ area_length }
-    requires zero_numbers { ZeroNumbers a }
+fn put_zero(area: &mut [i32; AREA], a: ZeroMeasurement<i64>, o: Offset)
+    requires { ZeroNumbers a }
     ensures { area.new ≡ renewed_all area.old (write offsets a.offset o ∷ []) }
 {
-    let axes = o.axes;
-    put_record(area, OFFSETS, a.offset, &axes);
+    put_record(area, OFFSETS, a.offset, &o.axes);
 }
 
-// Measures; the 42 numbers that begin at place are written where there is room for them, and it is not refused where there is none.
-pub fn evaluate_zero(
-    area: &mut [i32],
-    a: ZeroMeasurement,
+// Measures on an area of the right length; the 42 numbers of a measurement that is done are written to the results where they have room for them.
+fn measure<T: Raw>(
+    area: &mut [i32; AREA],
+    a: ZeroMeasurement<T>,
     results: &mut [i32],
-    place: usize,
-) -> Answer
-    ensures { measured_as (answered result.refusal result.evaluation area.new) results.new
-        ≡ measured_on area.old (zero (whole_zero a)) results.old place }
+) -> Result<Evaluation, Refusal>
+    ensures { measured_as (answered_by result area.new) (results_left result results.new)
+        ≡ measured_on area.old (zero (zero_by T.reading a)) results.old 0 }
 {
-    if area.len() != AREA {
-        return not_answered(WRONG_AREA);
-    }
-    let probing = a.probing;
-    let raws = a.raws;
-    let k = zero_kind_of(probing.kind);
-    let stated = zero_refusal(k, a);
-    if stated != DONE {
-        return refused(stated, results, place);
-    }
-    let r = zero_records(&area[..], a);
-    let x = r.probe;
-    let s = sizes_of(x, k, probing, raws);
-    let refusal = records_refusal(zero_tests(r, k, a, s));
-    if refusal != DONE {
-        return refused(refusal, results, place);
-    }
-    put_zero(area, a, offset_left(r, k, a, s));
-    put_zero_numbers(k, a, s, results, place);
-    Answer {
-        refusal: DONE,
-        evaluation: zero_evaluation(s),
-    }
+    let p = passed_zero(a)?;
+    let a = p.given;
+    let f = find(zero_records(area, a), p);
+    allowed(f.tests())?;
+    put_zero(area, a, f.offset_left());
+    let done = DoneZero {
+        passed: p,
+        measured: f.measured,
+    };
+    put_numbers(done, results);
+    Ok(evaluated(f.measured))
 }
 
-// Measures for a line of a job: nobody reads its 42 numbers, and no room is lent for them.
-pub fn zero_line(area: &mut [i32], a: ZeroMeasurement) -> Answer
-    ensures { answered result.refusal result.evaluation area.new ≡ called area.old (measure_zero a lent 0) }
+// Measures; the 42 numbers are written to the front of the results where they have room for them.
+pub fn evaluate_zero<T: Raw>(
+    area: &mut [i32],
+    a: ZeroMeasurement<T>,
+    results: &mut [i32],
+) -> Result<Evaluation, Refusal>
+    ensures { measured_as (answered_by result area.new) results.new
+        ≡ measured_on area.old (zero (zero_by T.reading a)) results.old 0 }
 {
-    let mut none = [0i32; 0];
-    evaluate_zero(area, a, &mut none, 0)
+    let Some(whole) = area.as_mut_array::<AREA>() else {
+        return Err(Refusal::WrongArea);
+    };
+    answered(measure(whole, a, results), results)
 }

@@ -1,53 +1,70 @@
-// The kind of a measurement with zero offset, and the refusals that its arguments give. Document 01, 'Zero offset kinds' and 'Alarm numbers'.
+// The kind of a measurement with zero offset, and its arguments tested. Document 01, 'Zero offset kinds' and 'Alarm numbers'.
 #![tactic(auto)]
 
-ghost use Rattle.std.specs.Prelude.{◌≡◌};
-ghost use Rattle.rules.specs.Kinds.{zero_kind};
+ghost use Rattle.std.specs.Prelude.{◌≡◌, IfOk};
+ghost use Rattle.package.specs.Given.{zero_by};
+ghost use Rattle.package.specs.Refusals.{refusal_in};
+ghost use Rattle.rules.specs.Kinds.{zero_kind, zero_kind_number};
 ghost use Rattle.rules.specs.Refusals.{first};
-ghost use Rattle.rules.specs.Zero.{zero_kind_of, zero_numbers, zero_arguments};
+ghost use Rattle.rules.specs.Zero.{zero_kind_of, good_zero, zero_at, zero_arguments_with};
+ghost use Rattle.rules.specs.Passed.{ZeroArgumentsPassed};
+ghost use Rattle.kinds.specs.Touches.{known};
 
-use kind_tests::{numbers_ok, positions_ok};
-use kinds::kind_of;
+use floats::Raw;
+use kind_tests::Probed;
+use kinds::tool_kind;
 use package::arguments::ZeroMeasurement;
 use package::found::Kind;
 use package::limits::{OFFSET_COUNT, TOLERANCE_LIMIT};
-use package::refusals::{DONE, NO_SUCH_NUMBER, OUTSIDE_RANGE, WRONG_LIMITS};
+use package::refusals::Refusal;
 use signed::in_range;
 
-// The kind of a number with zero offset; a plane where there is none.
-pub fn zero_kind_of(n: i64) -> Kind
-    ensures { result ≡ zero_kind n }
-{
-    if in_range(n, 100, 104) {
-        return kind_of(n - 100);
+// What a measurement with zero offset is given, tested, and its kind.
+#[derive(Clone, Copy)]
+pub struct PassedZero {
+    pub kind: Kind,
+    pub given: ZeroMeasurement<i64>,
+    pub ghost named: { kind ≡ zero_kind_of given },
+    pub ghost passed: { ZeroArgumentsPassed given },
+}
+
+impl PassedZero {
+    // What is probed.
+    pub fn probed(self) -> Probed
+        ensures { (result.kind ≡ self.kind) × (result.probing ≡ self.given.probing) × (result.raws ≡ self.given.raws) }
+    {
+        Probed {
+            kind: self.kind,
+            probing: self.given.probing,
+            raws: self.given.raws,
+        }
     }
-    kind_of(0)
 }
 
-fn zero_numbers_ok(k: Kind, a: ZeroMeasurement) -> bool
-    requires { k ≡ zero_kind_of a }
-    ensures { result ≡ zero_numbers a }
+// The kind of a number with zero offset.
+fn zero_kind(n: i64) -> Result<Kind, Refusal>
+    ensures { result ≡ known (zero_kind_number n) (zero_kind n) }
 {
-    let probing = a.probing;
-    in_range(probing.kind, 100, 104) & numbers_ok(k, probing) & in_range(a.offset, 1, OFFSET_COUNT)
+    match n {
+        100..=104 => tool_kind(n - 100),
+        _ => Err(Refusal::NoSuchNumber),
+    }
 }
 
-// The first refusal that the arguments alone give; k is the measurement's kind. No call of a user.
+// The arguments tested, with the positions that the raws give.
 #[tactic(auto, unfolding(rules::specs::Zero::zero_arguments_with))]
-pub fn zero_refusal(k: Kind, a: ZeroMeasurement) -> u32
-    requires { k ≡ zero_kind_of a }
-    ensures { result ≡ first (zero_arguments a) }
+pub fn passed_zero<T: Raw>(a: ZeroMeasurement<T>) -> Result<PassedZero, Refusal>
+    ensures refusal { let t = zero_by T.reading a in refusal_in result ≡ first (zero_arguments_with (good_zero t) (zero_at t)) }
+    ensures given { IfOk result (λ z. z.given ≡ zero_at (zero_by T.reading a)) }
 {
-    let probing = a.probing;
-    let raws = a.raws;
-    if !zero_numbers_ok(k, a) {
-        return NO_SUCH_NUMBER;
+    let kind = zero_kind(a.probing.kind)?;
+    if !in_range(a.offset, 1, OFFSET_COUNT) {
+        return Err(Refusal::NoSuchNumber);
     }
-    if !positions_ok(k, probing, raws) {
-        return OUTSIDE_RANGE;
-    }
+    let probed = Probed::tested(kind, a.probing, a.raws)?;
     if !in_range(a.tsa, 0, TOLERANCE_LIMIT) {
-        return WRONG_LIMITS;
+        return Err(Refusal::WrongLimits);
     }
-    DONE
+    let given = a.with_raws(probed.raws);
+    Ok(PassedZero { kind, given })
 }

@@ -6,16 +6,15 @@ use Rattle.signed.specs.Ranges.{minus, size}
 use Rattle.signed.specs.RangeLaws.{size_in, le_z_not, nearest_within}
 use Rattle.signed.specs.CodeLaws.{Cast, casts, read}
 use Rattle.signed.specs.Expressions.{Ex, bound, sub, Runs, run, sized}
-use Rattle.package.specs.declared.arguments.Calibration.{Calibration}
-use Rattle.package.specs.declared.found.Calibrated.{Calibrated}
+use Rattle.package.specs.Given.{Calibration}
 use Rattle.rules.specs.Refusals.{first}
 use Rattle.rules.specs.Stores.{trigger_range}
-use Rattle.rules.specs.Probes.{mark, trigger_read}
-use Rattle.rules.specs.Calibration.{new_trigger, change, calibration_records, status_left}
-use Rattle.calibration.specs.CalibratedLaws.{arguments, with_refused, with_done, place_passed}
+use Rattle.rules.specs.Probes.{mark, place_of, trigger_read}
+use Rattle.rules.specs.Calibration.{new_trigger, change, calibration_records, Calibrated, status_left}
+use Rattle.calibration.specs.CalibratedLaws.{arguments, with_refused, with_done}
 use Rattle.calibration.proofs.Laws.{trigger_size}
 use Rattle.calibration.proofs.calibrate_direction.Goals as goal
-use Rattle.calibration.proofs.calibrate_direction.Goals.{After-magnitude-d, After-mark_place-marked, After-read_trigger, Else-not-in_range}
+use Rattle.calibration.proofs.calibrate_direction.Goals.{After-magnitude-d, After-mark_place-status, After-read_trigger, Else-not-in_range}
 
 -- ---- t, the stored trigger as it is read, and |d|
 module _ (c : After-read_trigger) where
@@ -23,7 +22,7 @@ module _ (c : After-read_trigger) where
   stored = c.read_trigger.ensures ∙ search rules
 
   new_size : nat_abs c.new_trigger-t.result ≤ 20000000
-  new_size = rw c.new_trigger-t.ensures (trigger_size c.args.a (arguments c.args.a c.requires.a_value).positions)
+  new_size = rw c.new_trigger-t.ensures (trigger_size c.args.p.given (arguments c.args.p.given c.args.p.passed).positions)
 
   stored_size : nat_abs c.read_trigger.result ≤ 100000
   stored_size = rw stored (size_in 100000 (trigger_read c.args.trigger) (nearest_within (minus 100000) (pos 100000) c.args.trigger refl refl))
@@ -34,7 +33,7 @@ module _ (c : After-read_trigger) where
   runs : Runs difference
   runs = run difference tt (search)
 
-far : (c : After-magnitude-d) → to_z w64 (of_z w64 c.magnitude-d.result) ≡ size (change c.args.trigger c.args.a)
+far : (c : After-magnitude-d) → to_z w64 (of_z w64 c.magnitude-d.result) ≡ size (change c.args.trigger c.args.p.given)
 unfolding change
 far c =
     let m = c.magnitude-d in
@@ -42,11 +41,11 @@ far c =
 
 -- a test of a limit is the test of |d|
 module _ (c : After-magnitude-d) where
-  at_tsa : {b : Bool} → lt_z (to_z w64 (of_z w64 c.args.a.tsa)) (to_z w64 (of_z w64 c.magnitude-d.result)) ≡ b → lt_z c.args.a.tsa (size (change c.args.trigger c.args.a)) ≡ b
-  at_tsa e = let tsa : to_z w64 (of_z w64 c.args.a.tsa) ≡ c.args.a.tsa = search rules in rw (tsa, far c) at e
+  at_tsa : {b : Bool} → lt_z (to_z w64 (of_z w64 c.args.p.given.tsa)) (to_z w64 (of_z w64 c.magnitude-d.result)) ≡ b → lt_z c.args.p.given.tsa (size (change c.args.trigger c.args.p.given)) ≡ b
+  at_tsa e = let tsa : to_z w64 (of_z w64 c.args.p.given.tsa) ≡ c.args.p.given.tsa = search rules in rw (tsa, far c) at e
 
-  at_tzl : {b : Bool} → lt_z (to_z w64 (of_z w64 c.args.a.tzl)) (to_z w64 (of_z w64 c.magnitude-d.result)) ≡ b → lt_z c.args.a.tzl (size (change c.args.trigger c.args.a)) ≡ b
-  at_tzl e = let tzl : to_z w64 (of_z w64 c.args.a.tzl) ≡ c.args.a.tzl = search rules in rw (tzl, far c) at e
+  at_tzl : {b : Bool} → lt_z (to_z w64 (of_z w64 c.args.p.given.tzl)) (to_z w64 (of_z w64 c.magnitude-d.result)) ≡ b → lt_z c.args.p.given.tzl (size (change c.args.trigger c.args.p.given)) ≡ b
+  at_tzl e = let tzl : to_z w64 (of_z w64 c.args.p.given.tzl) ≡ c.args.p.given.tzl = search rules in rw (tzl, far c) at e
 
 -- |d| is at most TSA where TSA is not below it
 near : (a : Calibration) (z : ℤ) (below : Bool) → lt_z a.tsa (size (change z a)) ≡ below → le_z (size (change z a)) a.tsa ≡ not below
@@ -62,16 +61,15 @@ inside c = sym (c.in_range.ensures ∙ ap trigger_range (read c.new_trigger-t.re
 kept : (c : Else-not-in_range) → Cast w32 c.new_trigger-t.result
 kept c = casts w32 (minus 100000) (pos 100000) (record { sfits = c.new_trigger-t.type_inv }) tt tt (inside c)
 
-passed : (c : Else-not-in_range) → lt_z c.args.a.tsa (size (change c.args.trigger c.args.a)) ≡ false → first (calibration_records c.args.trigger c.args.a) ≡ 0
+passed : (c : Else-not-in_range) → lt_z c.args.p.given.tsa (size (change c.args.trigger c.args.p.given)) ≡ false → first (calibration_records c.args.trigger c.args.p.given) ≡ 0
 unfolding calibration_records
-passed c below = rw (near c.args.a c.args.trigger false below, sym (ap trigger_range c.new_trigger-t.ensures) ∙ inside c)
+passed c below = rw (near c.args.p.given c.args.trigger false below, sym (ap trigger_range c.new_trigger-t.ensures) ∙ inside c)
 
-marked : (c : After-mark_place-marked) → c.mark_place-marked.result ≡ status_left c.args.status c.args.a
+marked : (c : After-mark_place-status) → c.mark_place-status.result ≡ status_left c.args.status c.args.p.given
 unfolding status_left
-marked c = c.mark_place-marked.ensures ∙ ap (mark (c.args.status % 64)) c.requires.place_value
-
-pub new_trigger-t-requires : goal.new_trigger-t-requires
-new_trigger-t-requires c = (arguments c.args.a c.requires.a_value).positions
+marked c =
+    let place = c.place_on.ensures.value ∙ ap₂ place_of c.args.p.axis c.args.p.direction in
+    c.mark_place-status.ensures ∙ ap (mark (c.args.status % 64)) place
 
 pub overflow_sub-t : goal.overflow_sub-t
 overflow_sub-t c = search (runs (goal.at.overflow_sub-t c).After-read_trigger).asks
@@ -81,41 +79,38 @@ magnitude-d-requires c =
     let s = (goal.at.magnitude-d-requires c).After-read_trigger in
     rw (runs s).value (omega (arith, sized (difference s)))
 
-pub returns-then-a-d : goal.returns-then-a-d
+pub returns-then-p-d : goal.returns-then-p-d
 unfolding calibration_records
-returns-then-a-d c =
-    let a = c.args.a in
+returns-then-p-d c =
+    let a = c.args.p.given in
     let z = c.args.trigger in
-    let below = at_tsa (goal.at.returns-then-a-d c).After-magnitude-d c.if-a-d.true in
-    rw (to_z-of_z c.ranges.trigger) (sym (with_refused a c.requires.a_value z c.args.status 6 (rw (near a z true below))))
+    let below = at_tsa (goal.at.returns-then-p-d c).After-magnitude-d c.if-p-d.true in
+    sym (with_refused a c.args.p.passed z c.args.status 6 (rw (near a z true below)))
 
 pub returns-then-not-in_range : goal.returns-then-not-in_range
 unfolding calibration_records
 returns-then-not-in_range c =
-    let a = c.args.a in
+    let a = c.args.p.given in
     let z = c.args.trigger in
-    let below = at_tsa (goal.at.returns-then-not-in_range c).After-magnitude-d c.if-a-d.false in
+    let below = at_tsa (goal.at.returns-then-not-in_range c).After-magnitude-d c.if-p-d.false in
     let t = read c.new_trigger-t.result c.new_trigger-t.type_inv ∙ c.new_trigger-t.ensures in
     let outside : trigger_range (new_trigger a) ≡ false = sym (c.in_range.ensures ∙ ap trigger_range t) ∙ c.if-not-in_range.true in
-    rw (to_z-of_z c.ranges.trigger) (sym (with_refused a c.requires.a_value z c.args.status 8 (rw (near a z false below, outside))))
+    sym (with_refused a c.args.p.passed z c.args.status 8 (rw (near a z false below, outside)))
 
-pub mark_place-marked-requires : goal.mark_place-marked-requires
-mark_place-marked-requires c = rw c.requires.place_value (place_passed c.args.a c.requires.a_value)
+pub overflow_cast-trigger : goal.overflow_cast-trigger
+overflow_cast-trigger c = (kept (goal.at.overflow_cast-trigger c).Else-not-in_range).fits
 
-pub overflow_cast-result-then-a-d-2 : goal.overflow_cast-result-then-a-d-2
-overflow_cast-result-then-a-d-2 c = (kept (goal.at.overflow_cast-result-then-a-d-2 c).Else-not-in_range).fits
-
-pub returns-then-a-d-2 : goal.returns-then-a-d-2
-returns-then-a-d-2 c =
-    let p = goal.at.returns-then-a-d-2 c in
+pub returns-then-p-d-2 : goal.returns-then-p-d-2
+returns-then-p-d-2 c =
+    let p = goal.at.returns-then-p-d-2 c in
     let d = p.After-magnitude-d in
     let r = p.Else-not-in_range in
-    ap₂ left_with ((kept r).value ∙ c.new_trigger-t.ensures) (marked p.After-mark_place-marked)
-    ∙ sym (with_done c.args.a c.requires.a_value c.args.trigger c.args.status true (passed r (at_tsa d c.if-a-d.false)) (at_tzl d c.if-a-d-2.true))
+    ap₂ left_with ((kept r).value ∙ c.new_trigger-t.ensures) (marked p.After-mark_place-status)
+    ∙ sym (with_done c.args.p.given c.args.p.passed c.args.trigger c.args.status true (passed r (at_tsa d c.if-p-d.false)) (at_tzl d c.if-p-d-2.true))
 
-pub returns : goal.returns
-returns c =
-    let p = goal.at.returns c in
+pub returns-else-p-d-2 : goal.returns-else-p-d-2
+returns-else-p-d-2 c =
+    let p = goal.at.returns-else-p-d-2 c in
     let d = p.After-magnitude-d in
-    ap₂ left_with (to_z-of_z c.ranges.trigger) (marked p.After-mark_place-marked)
-    ∙ sym (with_done c.args.a c.requires.a_value c.args.trigger c.args.status false (passed p.Else-not-in_range (at_tsa d c.if-a-d.false)) (at_tzl d c.if-a-d-2.false))
+    ap₂ left_with (to_z-of_z c.ranges.trigger) (marked p.After-mark_place-status)
+    ∙ sym (with_done c.args.p.given c.args.p.passed c.args.trigger c.args.status false (passed p.Else-not-in_range (at_tsa d c.if-p-d.false)) (at_tzl d c.if-p-d-2.false))

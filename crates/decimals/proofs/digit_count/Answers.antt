@@ -1,19 +1,24 @@
--- After each turn the count and the digits of m are together one more than the digits of n; at the end m is one digit.
-use Rattle.std.proofs.Common.{length, ap, arith}
-use Rattle.decimals.specs.DecimalLaws.{one_digit, digit_more, decimal_length}
+-- From 10 ^ k on and below 10 * 10 ^ k a number has k + 1 digits, and so has 0, as 1.
+use Rattle.std.proofs.Common.{◌≡◌, ℕ, zero, suc, ◌+◌, ◌*◌, ◌^◌, ◌<◌, ◌≤◌, length, max, ap, arith}
+use Rattle.std.proofs.Math.Nat.{pow-succ'}
+use Rattle.std.proofs.Math.Decide.{dec_le}
+use Rattle.decimals.specs.Decimals.{decimal}
+use Rattle.decimals.specs.DecimalLaws.{one_digit, decimal_length, decimal_longer, ten_power}
 use Rattle.decimals.proofs.digit_count.Goals as goal
 
-pub loop-m-init : goal.loop-m-init
-loop-m-init c = (omega arith, omega arith)
+below : (k : ℕ) → 10 ^ k ≤ 1 → k ≡ 0
+below zero h = omega arith
+below (suc k) h = absurd (omega (arith, rw (pow-succ' 10 k) at h, ten_power k))
 
-pub overflow_add-count : goal.overflow_add-count
-overflow_add-count c = omega (arith, decimal_length 9 c.args.n (omega arith))
+counted : (n k : ℕ) → n < 10 ^ 10 → 10 ^ k ≤ max n 1 → max n 1 < 10 * 10 ^ k → k + 1 ≡ length (decimal n)
+counted n k b l h = go (dec_le 1 n)
+  where
+    p : 10 ^ suc k ≡ 10 * 10 ^ k
+    p = pow-succ' 10 k
 
-pub loop-m-smaller : goal.loop-m-smaller
-loop-m-smaller c = omega arith
-
-pub loop-m-preserved : goal.loop-m-preserved
-loop-m-preserved c = (omega arith, omega (arith, digit_more c.loop-m.m (omega arith) (omega arith)))
+    go : Dec (1 ≤ n) → k + 1 ≡ length (decimal n)
+    go (yes o) = omega (arith, decimal_longer k n (omega arith) b, decimal_length k n (omega (arith, p)))
+    go (no z) = omega (arith, ap length (one_digit n (omega arith)), below k (omega arith))
 
 pub returns : goal.returns
-returns c = omega (arith, ap length (one_digit c.loop-m.m (omega arith)))
+returns c = counted c.args.n c.ilog10.result (omega arith) (omega arith) (omega arith)

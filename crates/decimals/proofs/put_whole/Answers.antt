@@ -1,37 +1,52 @@
 -- The digits are written from the back: behind those still to be written stand those of the number.
-use Rattle.std.proofs.Common.{◌≡◌, ℕ, ◌+◌, ◌-◌, ◌^◌, ◌<◌, ◌≤◌, List, length, ap, arith}
-use Rattle.decimals.specs.DecimalLaws.{one_digit, digit_more}
+use Rattle.std.proofs.Common.{ℕ, ◌+◌, ◌-◌, ◌^◌, ◌<◌, ◌≤◌, List, length, ap, arith}
+use Rattle.std.proofs.Math.Decide.{dec_lt}
+use Rattle.decimals.specs.DecimalLaws.{one_digit, decimal_longer}
 use Rattle.decimals.proofs.Laws.{Behind, none_yet, within, same_size, next_digit, first_digit}
 use Rattle.decimals.proofs.put_whole.Goals as goal
+use Rattle.decimals.proofs.put_whole.Goals.{After-loop-k}
 
--- a digit is to be written before k
-some : (old : List ℕ) (at n : ℕ) (new : List ℕ) (m k : ℕ) → 10 ≤ m → m < 10 ^ 10 → Behind old at n new m k → k ≡ k - 1 + 1
-some old at n new m k h l b = omega (arith, b.place, digit_more m h l)
+-- before the last digit is written there are more, and then one is left
+more : {old new : List ℕ} {at n m k : ℕ} → Behind old at n new m k → at + 1 < k → 10 ≤ m
+more {m = m} b h = go (dec_lt m 10)
+  where
+    go : Dec (m < 10) → 10 ≤ m
+    go (yes l) = absurd (omega (arith, b.place, ap length (one_digit m l)))
+    go (no l) = omega arith
 
-pub overflow_add-end : goal.overflow_add-end
-overflow_add-end c = omega (arith, c.digit_count.ensures, c.requires)
+one : {old new : List ℕ} {at n m k : ℕ} → m < 10 ^ 10 → Behind old at n new m k → k ≤ at + 1 → m < 10
+one {m = m} s b h = go (dec_lt m 10)
+  where
+    go : Dec (m < 10) → m < 10
+    go (yes l) = l
+    go (no l) = absurd (omega (arith, b.place, decimal_longer 1 m (omega arith) s))
 
-pub loop-m-init : goal.loop-m-init
-loop-m-init c = (c.requires, omega arith, rw c.digit_count.ensures (none_yet c.requires))
+pub loop-k-init : goal.loop-k-init
+loop-k-init c = record { fits = c.requires; small = omega arith; behind = rw c.digit_count.ensures (none_yet c.requires) }
 
-pub overflow_sub-k : goal.overflow_sub-k
-overflow_sub-k c = omega (arith, some _ _ _ _ _ _ (omega arith) (omega arith) c.loop-m.invariant.2)
+pub loop-k-preserved : goal.loop-k-preserved
+loop-k-preserved c =
+    let i = c.loop-k.invariant in
+    let k = c.loop-k.k in
+    record {
+      fits = i.fits;
+      small = omega arith;
+      behind = next_digit i.fits i.behind (k - 1) (omega arith) (more i.behind c.loop-k-test.true) (omega arith);
+    }
 
-pub bounds-out-k : goal.bounds-out-k
-bounds-out-k c =
-    let i = c.loop-m.invariant in
-    omega (arith, some _ _ _ _ _ _ (omega arith) (omega arith) i.2, within i.0 i.2, same_size i.0 i.2)
+last : (c : After-loop-k) → c.loop-k.m < 10
+last c = one (omega arith) c.loop-k.invariant.behind c.loop-k-test.false
 
-pub loop-m-preserved : goal.loop-m-preserved
-loop-m-preserved c =
-    let i = c.loop-m.invariant in
-    let k = c.loop-m.k in
-    (i.0, omega arith, next_digit i.0 i.2 (k - 1) (some _ _ _ _ _ _ (omega arith) (omega arith) i.2) (omega arith) (omega arith))
+pub overflow_cast-out-2 : goal.overflow_cast-out-2
+overflow_cast-out-2 c = omega (arith, last c)
+
+pub overflow_add-out-2 : goal.overflow_add-out-2
+overflow_add-out-2 c = omega (arith, last c)
 
 pub bounds-out-at : goal.bounds-out-at
 bounds-out-at c =
-    let i = c.loop-m.invariant in
-    omega (arith, within i.0 i.2, same_size i.0 i.2, i.2.place, ap length (one_digit c.loop-m.m (omega arith)))
+    let i = c.loop-k.invariant in
+    omega (arith, within i.fits i.behind, same_size i.fits i.behind, i.behind.place, ap length (one_digit c.loop-k.m (last c)))
 
 pub returns : goal.returns
-returns c = let i = c.loop-m.invariant in (omega (arith, c.digit_count.ensures), first_digit i.0 i.2 (omega arith))
+returns c = let i = c.loop-k.invariant in (omega (arith, c.digit_count.ensures), first_digit i.fits i.behind (last c))

@@ -1,64 +1,30 @@
--- By cases: a wrong area, a number or a value that its test refuses, or none; then the value is in its range, so that i32 holds it as it is.
-use mathlib.Core.Path.{◌≡◌, refl, sym, ◌∙◌}
-use mathlib.Core.Bool.{true}
-use native.Mathlib.Omega.{arith}
-use lib.IntN.{pos}
+-- A refusal is the first that applies; where none does, the value is in its range, so that the area holds it as it is.
+use Rattle.std.proofs.Common.{◌≡◌, refl, pos, arith, sym, to_z-of_z}
+use Rattle.std.proofs.lemmas.Grind.{common_steps}
 use mir.Syntax.{w32}
-use mir.Facts.{to_z-of_z}
-use borrow.Author.Rules.{rules}
 use Rattle.signed.specs.Ranges.{minus}
-use Rattle.signed.specs.CodeLaws.{Cast, casts, tested}
+use Rattle.signed.specs.CodeLaws.{Cast, casts}
 use Rattle.signed.specs.RangeLaws.{or_zero}
-use Rattle.rules.specs.Stores.{value_number, value_range}
-use Rattle.rules.specs.Calls.{Call, set_empirical}
-use Rattle.area.specs.CalledLaws.{call_wrong, call_refused, call_done}
+use Rattle.rules.specs.Refusals.{first}
+use Rattle.rules.specs.Settings.{empirical_rules}
+use Rattle.rules.specs.Passed.{empirical_passed}
+use Rattle.rules.specs.Calls.{set_empirical}
+use Rattle.area.specs.CalledLaws.{call_refused_by, call_done}
 use Rattle.empirical_setting.proofs.set_empirical.Goals as goal
-use Rattle.empirical_setting.proofs.set_empirical.Goals.{After-in_range, After-in_range-2, Else-not-in_range, Else-not-in_range-2, Start}
 
-abbrev call : Start → Call
-call s = set_empirical s.args.ev s.args.value
+pub returns-in_err-stored : goal.returns-in_err-stored
+returns-in_err-stored c =
+    call_refused_by c.args.area.now (set_empirical c.args.ev c.args.value) c.in-Some.ensures.cases.long {e = c.in_err-stored.field-0.0}
+    (grind (arith, common_steps)) (rw (to_z-of_z c.ranges.ev, to_z-of_z c.ranges.value) at c.in_err-stored.ensures.number) c.in-Some.ensures.cases.same
 
-pub returns-then-area-ne-AREA : goal.returns-then-area-ne-AREA
-returns-then-area-ne-AREA c = let s = c.before in call_wrong s.args.area.now (call s) c.if-area-ne-AREA.true
-
-number : (c : After-in_range) → c.in_range.result ≡ value_number c.before.before.args.ev
-number c = tested value_number c.before.before.ranges.ev c.in_range.ensures
-
-pub returns-then-not-in_range : goal.returns-then-not-in_range
-returns-then-not-in_range c =
-    let w = c.before.before in
-    call_refused w.before.args.area.now (call w.before) w.if-area-ne-AREA.false (rw (sym (number c.before) ∙ c.if-not-in_range.true)) (λ q. omega (arith, q))
-
-number_in : (c : Else-not-in_range) → value_number c.before.before.before.args.ev ≡ true
-number_in c = sym (number c.before) ∙ c.if-not-in_range.false
-
-value : (c : After-in_range-2) → c.in_range-2.result ≡ value_range c.before.before.before.before.args.value
-value c = tested value_range c.before.before.before.before.ranges.value c.in_range-2.ensures
-
-pub returns-then-not-in_range-2 : goal.returns-then-not-in_range-2
-returns-then-not-in_range-2 c =
-    let n = c.before.before in
-    let w = n.before.before in
-    call_refused w.before.args.area.now (call w.before) w.if-area-ne-AREA.false (rw (number_in n, sym (value c.before) ∙ c.if-not-in_range-2.true))
-    (λ q. omega (arith, q))
-
-value_in : (c : Else-not-in_range-2) → value_range c.before.before.before.before.before.args.value ≡ true
-value_in c = sym (value c.before) ∙ c.if-not-in_range-2.false
-
-kept : (c : Else-not-in_range-2) → Cast w32 c.before.before.before.before.before.args.value
-kept c = casts w32 (minus 32768) (pos 32767) c.before.before.before.before.before.ranges.value tt tt (value_in c)
-
-pub put_record-requires : goal.put_record-requires
-put_record-requires c =
-    let n = c.before.before.before.before in
-    let n_in = or_zero 20 n.before.before.before.args.ev (number_in n) in
-    search rules
+pub put_record-requires-clause-n_value : goal.put_record-requires-clause-n_value
+put_record-requires-clause-n_value c =
+    let none : first (empirical_rules c.args.ev c.args.value) ≡ 0 = sym (rw (to_z-of_z c.ranges.ev, to_z-of_z c.ranges.value) at c.in_ok-stored.ensures.number) in
+    rw (to_z-of_z c.ranges.ev) (or_zero 20 c.args.ev (empirical_passed c.args.ev c.args.value none).number)
 
 pub returns : goal.returns
 returns c =
-    let e = c.before.before.before.before in
-    let n = e.before.before in
-    let w = n.before.before in
-    let s = w.before in
-    call_done s.args.area.now (call s) w.if-area-ne-AREA.false (rw (number_in n, value_in e)) refl
-    (rw (to_z-of_z s.ranges.ev, (kept e).value) at c.before.put_record.ensures)
+    let none : first (empirical_rules c.args.ev c.args.value) ≡ 0 = sym (rw (to_z-of_z c.ranges.ev, to_z-of_z c.ranges.value) at c.in_ok-stored.ensures.number) in
+    let kept : Cast w32 c.args.value = casts w32 (minus 32768) (pos 32767) c.ranges.value tt tt (empirical_passed c.args.ev c.args.value none).value_in in
+    call_done c.args.area.now (set_empirical c.args.ev c.args.value) c.in-Some.ensures.cases.long none refl
+    (rw (c.in-Some.ensures.cases.same, to_z-of_z c.ranges.ev, c.in_ok-stored.ensures.kept, kept.value) at c.put_record.ensures)

@@ -1,5 +1,6 @@
-use Rattle.std.proofs.Common.{◌≡◌, ℕ, ◌-◌, ◌≤◌, List, length, take, drop}
+use Rattle.std.proofs.Common.{◌≡◌, ℕ, ◌≤◌, List, length, take, drop}
 use Rattle.text.specs.Pieces.{cut, comma, line}
+use Rattle.job_text.specs.Bytes.{byte_of}
 use Rattle.job_text.specs.Letters.{most_fields, form_of}
 use Rattle.job_text.specs.Lines.{Numbers, numbers_of}
 use Rattle.job_text.proofs.FieldLaws.{front}
@@ -11,8 +12,10 @@ numbers letter s n at = numbers_of (form_of letter) n (cut comma (drop at (line 
 
 abbrev pub invariant-loop-n : goal.invariant-loop-n
 invariant-loop-n l =
-    (l.n ≤ most_fields) × (l.at ≤ length (line l.rest)) × (length l.values ≡ length l.initial.values)
-    × (numbers l.letter l.rest 0 0 ≡ front (take l.n l.values) (numbers l.letter l.rest l.n l.at))
-
-abbrev pub decreases-loop-n : goal.decreases-loop-n
-decreases-loop-n l = most_fields - l.n
+    let s = l.rest.bytes.now in
+    let byte = byte_of l.letter in
+    record {
+      within : l.at ≤ length (line s);
+      room : length l.values ≡ most_fields;
+      numbers : numbers byte s 0 0 ≡ front (take l.n l.values) (numbers byte s l.n l.at);
+    }

@@ -51,43 +51,28 @@ short area number o s whole h e d c =
     (omega (arith, nat_abs-le o.row.evaluation.deviation {H = 2 ^ 31} d))
     (omega (arith, nat_abs-le o.row.evaluation.correction {H = 2 ^ 31} c))
 
-pub read_line-line-requires : goal.read_line-line-requires
-read_line-line-requires c =
+pub invariant_of-rest : goal.invariant_of-rest
+invariant_of-rest c =
     let job = c.args.job.now in
     let r = runs_when job (length c.args.output.now) c.requires.1 in
-    (subst HasLine (sym (part_end job c.loop-at.at)) (on job _ r c.loop-at.at (omega arith)), omega (arith, c.loop-at.invariant.5, c.requires.2))
+    record { ended = subst HasLine (sym (part_end job c.loop-at.at)) (on job _ r c.loop-at.at (omega arith)) }
 
 pub overflow_add-number : goal.overflow_add-number
 overflow_add-number c =
     let job = c.args.job.now in
     let r = runs_when job (length c.args.output.now) c.requires.1 in
-    omega (arith, counted job _ r c.loop-at.at (omega arith) _ c.read_line-line.ensures.1 c.loop-at.number c.loop-at.invariant.1)
-
-pub run_line-row-requires : goal.run_line-row-requires
-run_line-row-requires c = omega (arith, c.read_line-line.auto.values, c.loop-at.invariant.5, c.requires.2)
+    omega (arith, counted job _ r c.loop-at.at (omega arith) _ c.read_line-line.ensures.1 c.loop-at.number c.loop-at.invariant.left)
 
 pub put_row-filled-requires : goal.put_row-filled-requires
 put_row-filled-requires c =
     let job = c.args.job.now in
     let i = c.loop-at.invariant in
     let r = runs_when job (length c.args.output.now) c.requires.1 in
-    let k = counted job _ r c.loop-at.at (omega arith) _ c.read_line-line.ensures.1 c.loop-at.number i.1 in
+    let k = counted job _ r c.loop-at.at (omega arith) _ c.read_line-line.ensures.1 c.loop-at.number i.left in
     let e = stepped job c.loop-at.at c.loop-at.area c.loop-at.number (ran_as c.run_line-row.result c.run_line-row.new.area) _ c.run_line-row.ensures
     c.read_line-line.ensures.0 in
-    let s = short c.loop-at.area c.loop-at.number _ _ i.3 k.1 e (search rules) (search rules) in
-    omega (arith, s, k.0, r.room, i.2, i.4)
-
-pub overflow_add-at : goal.overflow_add-at
-overflow_add-at c =
-    let job = c.args.job.now in
-    let r = runs_when job (length c.args.output.now) c.requires.1 in
-    omega (arith, within job _ r c.loop-at.at (omega arith) _ c.read_line-line.ensures.1, r.size)
-
-pub overflow_add-at-in-loop-at : goal.overflow_add-at-in-loop-at
-overflow_add-at-in-loop-at c =
-    let job = c.args.job.now in
-    let r = runs_when job (length c.args.output.now) c.requires.1 in
-    omega (arith, within job _ r c.loop-at.at (omega arith) _ c.read_line-line.ensures.1, r.size)
+    let s = short c.loop-at.area c.loop-at.number _ _ i.whole k.1 e (search rules) (search rules) in
+    omega (arith, s, k.0, r.room, i.filled, i.room)
 
 pub loop-at-preserved : goal.loop-at-preserved
 loop-at-preserved c =
@@ -102,30 +87,30 @@ loop-at-preserved c =
     let r = runs_when job (length old) c.requires.1 in
     let f = c.read_line-line.ensures.1 in
     let m = more_lines job _ r at (omega arith) _ f in
-    let k = counted job _ r at (omega arith) _ f number i.1 in
+    let k = counted job _ r at (omega arith) _ f number i.left in
     let w = within job _ r at (omega arith) _ f in
     let later = lines (drop (at + (c.read_line-line.result.length + 1)) job) in
     let o : Ran = ran_as c.run_line-row.result c.run_line-row.new.area in
     let e = stepped job at area number o _ c.run_line-row.ensures c.read_line-line.ensures.0 in
-    let s = short area number o _ i.3 k.1 e (search rules) (search rules) in
+    let s = short area number o _ i.whole k.1 e (search rules) (search rules) in
     let t = row_text o.row in
     let p : c.put_row-filled.result ≡ n + length t = c.put_row-filled.ensures.0 in
     let b : c.put_row-filled.new.out ≡ written out n t = c.put_row-filled.ensures.1 in
-    let h : n + length t ≤ length out = omega (arith, s, k.0, r.room, i.2, i.4) in (
-      omega (arith, w),
-      k.0,
-      omega (arith, p, s, i.2),
-      c.run_line-row.auto.area ∙ i.3,
-      ap length b ∙ written_length out n t h ∙ i.4,
-      c.read_line-line.auto.values ∙ i.5,
-      rw (p, b) (written_drop out n t h ∙ drop_more out old n (length t) i.6),
-      rw (p, b, written_take out n t h)
-          (i.7
+    let h : n + length t ≤ length out = omega (arith, s, k.0, r.room, i.filled, i.room) in
+    record {
+      within = omega (arith, w);
+      left = k.0;
+      filled = omega (arith, p, s, i.filled);
+      whole = c.run_line-row.auto.area ∙ i.whole;
+      room = ap length b ∙ written_length out n t h ∙ i.room;
+      behind = rw (p, b) (written_drop out n t h ∙ drop_more out old n (length t) i.behind);
+      text = rw (p, b, written_take out n t h)
+          (i.text
           ∙ ap (λ (x : List (List ℕ)). take n out ++ lines_text area number x) m
           ∙ ap (λ (x : List ℕ). take n out ++ x) (text_step area number (line (drop at job)) later o e)
-          ∙ sym (append_assoc (take n out) t (lines_text o.area (number + 1) later))),
-      i.8 ∙ ap (lines_area area) m ∙ area_step area number (line (drop at job)) later o e,
-    )
+          ∙ sym (append_assoc (take n out) t (lines_text o.area (number + 1) later)));
+      area = i.area ∙ ap (lines_area area) m ∙ area_step area number (line (drop at job)) later o e;
+    }
 
 -- at the end no line is left
 module _ (job : List ℕ) (at : ℕ) (h : length job ≤ at) (a area : List ℤ) (number : ℕ) where
@@ -142,12 +127,12 @@ returns-clause-value c =
     let job = c.args.job.now in
     let i = c.loop-at.invariant in
     let r = runs_when job (length c.args.output.now) c.requires.1 in
-    let t = text_after job c.loop-at.at (omega arith) c.args.area.now c.loop-at.area c.loop-at.number _ i.7 in
-    sym (ap length t ∙ length-take-le c.loop-at.filled c.loop-at.output (omega (arith, i.1, i.2, i.4, r.room)))
+    let t = text_after job c.loop-at.at (omega arith) c.args.area.now c.loop-at.area c.loop-at.number _ i.text in
+    sym (ap length t ∙ length-take-le c.loop-at.filled c.loop-at.output (omega (arith, i.left, i.filled, i.room, r.room)))
 
 pub returns-clause-area_after : goal.returns-clause-area_after
 returns-clause-area_after c =
-    sym (area_after c.args.job.now c.loop-at.at (omega arith) c.args.area.now c.loop-at.area c.loop-at.number c.loop-at.invariant.8)
+    sym (area_after c.args.job.now c.loop-at.at (omega arith) c.args.area.now c.loop-at.area c.loop-at.number c.loop-at.invariant.area)
 
 pub returns-clause-output_after : goal.returns-clause-output_after
 returns-clause-output_after c =
@@ -157,6 +142,6 @@ returns-clause-output_after c =
     let n = c.loop-at.filled in
     let i = c.loop-at.invariant in
     let r = runs_when job (length old) c.requires.1 in
-    let t = text_after job c.loop-at.at (omega arith) c.args.area.now c.loop-at.area c.loop-at.number _ i.7 in
-    let l = length-take-le n out (omega (arith, i.1, i.2, i.4, r.room)) in
-    rw t (from_start old out (take n out) (rw (l, ← i.6) (sym (take-append-drop n out))))
+    let t = text_after job c.loop-at.at (omega arith) c.args.area.now c.loop-at.area c.loop-at.number _ i.text in
+    let l = length-take-le n out (omega (arith, i.left, i.filled, i.room, r.room)) in
+    rw t (from_start old out (take n out) (rw (l, ← i.behind) (sym (take-append-drop n out))))

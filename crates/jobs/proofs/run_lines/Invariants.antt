@@ -6,11 +6,17 @@ use Rattle.jobs.proofs.run_lines.Given as goal
 
 abbrev pub invariant-loop-at : goal.invariant-loop-at
 invariant-loop-at l =
-    (l.at ≤ length l.job) × (l.number + length (lines (drop l.at l.job)) ≡ length (lines l.job)) × (l.filled ≤ 40 * l.number)
-    × (length l.area ≡ area_length) × (length l.output ≡ length l.initial.output) × (length l.values ≡ length l.initial.values)
-    × (drop l.filled l.output ≡ drop l.filled l.initial.output)
-    × (lines_text l.initial.area 0 (lines l.job) ≡ take l.filled l.output ++ lines_text l.area l.number (lines (drop l.at l.job)))
-    × (lines_area l.initial.area (lines l.job) ≡ lines_area l.area (lines (drop l.at l.job)))
+    let rest = lines (drop l.at l.job) in
+    record {
+      within : l.at ≤ length l.job;
+      left : l.number + length rest ≡ length (lines l.job);
+      filled : l.filled ≤ 40 * l.number;
+      whole : length l.area ≡ area_length;
+      room : length l.output ≡ length l.initial.output;
+      behind : drop l.filled l.output ≡ drop l.filled l.initial.output;
+      text : lines_text l.initial.area 0 (lines l.job) ≡ take l.filled l.output ++ lines_text l.area l.number rest;
+      area : lines_area l.initial.area (lines l.job) ≡ lines_area l.area rest;
+    }
 
 abbrev pub decreases-loop-at : goal.decreases-loop-at
 decreases-loop-at l = length l.job - l.at

@@ -1,37 +1,32 @@
--- After each turn the count so far and the lines from `at` on come to all lines; the latter are the block's and those behind it.
-use Rattle.std.proofs.Common.{◌≡◌, ℕ, ◌+◌, ◌-◌, List, length, take, drop, sym, arith, length-take}
-use Rattle.lists.specs.Copied.{part_end}
+-- The count so far and the lines that the blocks from there on end come to all lines.
+use Rattle.std.proofs.Common.{◌≡◌, ℕ, suc, ◌+◌, ◌/◌, ◌<◌, List, [], length, get_or, drop, ap, arith, add-one, drop-cons, drop_of_length-le}
+use Rattle.std.specs.Prelude.{sum_by}
+use Rattle.std.proofs.lemmas.List.Sums.{sum_by-cons}
 use Rattle.text.specs.Pieces.{lines}
 use Rattle.text.specs.PieceLaws.{count_le}
-use Rattle.text.proofs.PieceLaws.{count_part}
+use Rattle.line_counts.proofs.LineSums.{ended, blocks_end_lines}
 use Rattle.line_counts.proofs.count_lines.Goals as goal
 
--- the lines of a block, and those behind it
-block : (s : List ℕ) (at n : ℕ) → n ≡ length (lines (take (at + 128 - at) (drop at s)))
-    → length (lines (drop at s)) ≡ n + length (lines (drop (at + 128) s))
-block s at n e = let k : at + 128 - at ≡ 128 = omega arith in rw (e, k) (count_part s at 128)
+pub loop-block-init : goal.loop-block-init
+loop-block-init c =
+    let s = c.args.s.now in
+    rw (c.as_chunks.ensures.front) (omega (arith, blocks_end_lines 128 (length s / 128) s, c.count_block.ensures, ap (λ l. length (lines l)) c.as_chunks.ensures.back))
 
--- those of the last block
-last : (s : List ℕ) (at n m : ℕ) → length (lines s) ≡ n + length (lines (drop at s)) → m ≡ length (lines (take (length s - at) (drop at s)))
-    → length (lines s) ≡ n + m
-last s at n m h e = rw (e, part_end s at) h
-
-pub count_block-requires : goal.count_block-requires
-count_block-requires c = simp length-take (omega arith)
+-- the block that a turn counts, in front of those behind it
+front : (bs : List (List ℕ)) (i : ℕ) → i < length bs → sum_by ended (drop i bs) ≡ ended (get_or bs i []) + sum_by ended (drop (i + 1) bs)
+front bs i h = rw (add-one i, drop-cons bs i [] h) (sum_by-cons ended (get_or bs i []) (drop (suc i) bs))
 
 pub overflow_add-n : goal.overflow_add-n
 overflow_add-n c =
-    omega (arith, block c.args.s.now c.loop-at.at c.count_block.result c.count_block.ensures, count_le c.args.s.now)
+    let f = front c.as_chunks.result.0.now c.loop-block.block-index (omega arith) in
+    omega (arith, f, c.loop-block.invariant, c.count_block-in-loop-block.ensures, count_le c.args.s.now)
 
-pub loop-at-preserved : goal.loop-at-preserved
-loop-at-preserved c = (omega arith, omega (arith, block c.args.s.now c.loop-at.at c.count_block.result c.count_block.ensures))
-
-pub count_block-requires-2 : goal.count_block-requires-2
-count_block-requires-2 c = simp length-take (omega arith)
-
-pub overflow_add-result : goal.overflow_add-result
-overflow_add-result c =
-    omega (arith, last c.args.s.now c.loop-at.at c.loop-at.n _ c.loop-at.invariant.1 c.count_block-2.ensures, count_le c.args.s.now)
+pub loop-block-preserved : goal.loop-block-preserved
+loop-block-preserved c =
+    let f = front c.as_chunks.result.0.now c.loop-block.block-index (omega arith) in
+    omega (arith, f, c.loop-block.invariant, c.count_block-in-loop-block.ensures)
 
 pub returns : goal.returns
-returns c = sym (last c.args.s.now c.loop-at.at c.loop-at.n _ c.loop-at.invariant.1 c.count_block-2.ensures)
+returns c =
+    let e = ap (sum_by ended) (drop_of_length-le c.as_chunks.result.0.now {i = c.loop-block.block-index} (omega arith)) in
+    omega (arith, e, c.loop-block.invariant)

@@ -1,11 +1,7 @@
-use mathlib.Core.Path.{◌≡◌}
-use Prim.Native.Nat.{◌+◌, ◌≤◌, ◌-◌}
-use lib.ListN.{length, drop}
+use Rattle.std.specs.Prelude.{◌≡◌, ◌+◌, length, drop, sum_by}
 use Rattle.text.specs.Pieces.{lines}
+use Rattle.line_counts.proofs.LineSums.{ended}
 use Rattle.line_counts.proofs.count_lines.Given as goal
 
-abbrev pub invariant-loop-at : goal.invariant-loop-at
-invariant-loop-at l = (l.at ≤ length l.s) × (length (lines l.s) ≡ l.n + length (lines (drop l.at l.s)))
-
-abbrev pub decreases-loop-at : goal.decreases-loop-at
-decreases-loop-at l = length l.s - l.at
+abbrev pub invariant-loop-block : goal.invariant-loop-block
+invariant-loop-block l = l.n + sum_by ended (drop l.block-index l.blocks) ≡ length (lines l.s)

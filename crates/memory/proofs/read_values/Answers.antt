@@ -41,7 +41,7 @@ module _ (c : At-loop-i) where
   inside = rw (c.before.requires.0, c.before.requires.1) at c.before.requires.2
 
 pub loop-i-init : goal.loop-i-init
-loop-i-init c = (omega arith, refl)
+loop-i-init c = refl
 
 pub loop-i-preserved : goal.loop-i-preserved
 loop-i-preserved c =
@@ -49,15 +49,13 @@ loop-i-preserved c =
     let back : to_z w16 (of_z w16 c.value_from.result) ≡ c.value_from.result = search rules in
     let r = c.value_from.ensures ∙ ap value_from (read_as w32 _ c.before.value_from-arg-1.given)
     ∙ read_at (section l) (area l) l.loop-i.i l.before.requires.0 (omega (arith, l.before.requires.1)) in
-    let n = twenty l in (
-      omega arith,
-      rw (l.loop-i.invariant.1, back, r)
-          (copied_suc _ (map (record_from means) (records (section l) (area l))) l.loop-i.i _ (omega arith) (omega arith)),
-    )
+    let n = twenty l in
+    rw (l.loop-i.invariant, back, r)
+    (copied_suc _ (map (record_from means) (records (section l) (area l))) l.loop-i.i _ (omega arith) (omega arith))
 
 pub returns : goal.returns
 returns c =
     let l = c.before in
     let xs = map (record_from means) (records (section l) (area l)) in
     let e : l.loop-i.i ≡ 20 = omega arith in
-    l.loop-i.invariant.1 ∙ rw (e, copied_all _ xs 20 (twenty l)) (append-nil xs)
+    l.loop-i.invariant ∙ rw (e, copied_all _ xs 20 (twenty l)) (append-nil xs)

@@ -7,8 +7,9 @@ use native.Mathlib.Omega.{arith}
 use lib.IntN.{ℤ, pos}
 use lib.ListN.{length}
 use lib.Seq.{paste, paste-zero, paste-suc, length-paste, take_all}
-use mir.Syntax.{w16, w32}
-use Rattle.signed.specs.CodeLaws.{Widened, widened}
+use mir.Syntax.{w32}
+use mir.Val.{to_z, of_z}
+use borrow.Author.Rules.{rules}
 use Rattle.lists.specs.Written.{written}
 use Rattle.rules.specs.Block.{words}
 use Rattle.rules.specs.BlockLaws.{length_words, words_at}
@@ -22,37 +23,35 @@ same : (zs : List ℤ) (at i : ℕ) (bytes : List ℕ) {area : List ℤ} → (at
 same zs at i bytes h l e = let n = twenty bytes h.1 in ap length e ∙ length-paste zs at (words bytes) i (omega (arith, h.0)) (omega arith)
 
 pub loop-i-init : goal.loop-i-init
-loop-i-init c = (omega arith, paste-zero c.args.area.now c.args.at (words c.args.bytes.now))
+loop-i-init c = paste-zero c.args.area.now c.args.at (words c.args.bytes.now)
 
 pub bounds-area-at : goal.bounds-area-at
 bounds-area-at c =
     omega (
       arith,
-      same c.args.area.now c.args.at c.loop-i.i c.args.bytes.now c.requires c.loop-i.invariant.0 c.loop-i.invariant.1,
+      same c.args.area.now c.args.at c.loop-i.i c.args.bytes.now c.requires (omega arith) c.loop-i.invariant,
       c.requires.0,
     )
 
 pub loop-i-preserved : goal.loop-i-preserved
 loop-i-preserved c =
-    let kept : Widened w16 w32 c.decode-v.result = widened w16 w32 c.decode-v.result tt c.decode-v.type_inv in
-    let n = twenty c.args.bytes.now c.requires.1 in (
-      omega arith,
-      rw (
-        c.loop-i.invariant.1,
-        kept.value,
-        c.decode-v.ensures,
-        ← words_at c.args.bytes.now c.loop-i.i (omega (arith, c.requires.1)),
-        add-one c.loop-i.i,
-      )
-          (paste-suc c.args.area.now c.args.at (words c.args.bytes.now) c.loop-i.i (pos 0) (omega (arith, c.requires.0)) (omega arith)),
+    let kept : to_z w32 (of_z w32 c.from.result) ≡ c.decode-v.result = search rules in
+    let n = twenty c.args.bytes.now c.requires.1 in
+    rw (
+      c.loop-i.invariant,
+      kept,
+      c.decode-v.ensures,
+      ← words_at c.args.bytes.now c.loop-i.i (omega (arith, c.requires.1)),
+      add-one c.loop-i.i,
     )
+    (paste-suc c.args.area.now c.args.at (words c.args.bytes.now) c.loop-i.i (pos 0) (omega (arith, c.requires.0)) (omega arith))
 
 pub shape_of-area : goal.shape_of-area
-shape_of-area c = same c.args.area.now c.args.at c.loop-i.i c.args.bytes.now c.requires c.loop-i.invariant.0 c.loop-i.invariant.1
+shape_of-area c = same c.args.area.now c.args.at c.loop-i.i c.args.bytes.now c.requires (omega arith) c.loop-i.invariant
 
 pub returns : goal.returns
 unfolding written
 returns c =
     let n = twenty c.args.bytes.now c.requires.1 in
     let e : c.loop-i.i ≡ length (words c.args.bytes.now) = omega arith in
-    c.loop-i.invariant.1 ∙ rw (e, take_all (length (words c.args.bytes.now)) (words c.args.bytes.now) (omega arith))
+    c.loop-i.invariant ∙ rw (e, take_all (length (words c.args.bytes.now)) (words c.args.bytes.now) (omega arith))

@@ -1,7 +1,7 @@
--- The number tested is the axis after its growth, by the contract of `axis_left`, and the test is that of `in_range`.
-use Rattle.std.proofs.Common.{to_z-of_z}
+-- The number tested is the axis after its growth, and the test is that of `in_range`.
+use Rattle.std.proofs.Common.{rules}
 use Rattle.signed.specs.CodeLaws.{read}
 use Rattle.offset_axes.proofs.left_ok.Goals as goal
 
 pub returns : goal.returns
-returns c = rw (c.in_range.ensures, read c.axis_left.result c.axis_left.type_inv, c.axis_left.ensures, to_z-of_z c.ranges.n)
+returns c = let left = rw (read c.axis_left-left.result c.axis_left-left.type_inv, c.axis_left-left.ensures) at c.in_range.ensures in search rules

@@ -5,6 +5,6 @@ use Rattle.rules.specs.Zero.{zero_kind_of}
 use Rattle.kinds.specs.KindLaws.{probe_number_lem}
 use Rattle.reading.proofs.zero_records.Goals as goal
 
-pub probe_at-requires-clause-n_value : goal.probe_at-requires-clause-n_value
-probe_at-requires-clause-n_value c =
-    rw (read c.args.a.probing.probe (search rules)) (probe_number_lem (zero_kind_of c.args.a) c.args.a.probing c.requires.zero_numbers.numbers)
+pub probe_at-requires : goal.probe_at-requires
+probe_at-requires c =
+    record { n_value = rw (read c.args.a.probing.probe (search rules)) (probe_number_lem (zero_kind_of c.args.a) c.args.a.probing c.requires.zero_numbers.numbers) }

@@ -22,13 +22,12 @@ loop-i-preserved c =
     let i = c.loop-i.i in
     let long : length (octets vs) ≡ 40 = forty vs (search rules) in
     let back : to_z w16 (of_z w16 (get_or vs i (pos 0))) ≡ get_or vs i (pos 0) = search rules in
-    let bits : c.encode-n.result ≡ code (get_or vs i (pos 0)) = c.encode-n.ensures.0 ∙ ap code back in
-    let low = ap (λ (n : ℕ). n % 256) bits in
-    let high = ap (λ (n : ℕ). n / 256) bits in
-    (omega arith, two_more c.args.buffer.now vs i (omega arith) (omega arith) c.loop-i.invariant.1 low high)
+    let low = ap (λ (bs : List ℕ). get_or bs 0 0) c.encode.ensures ∙ ap (λ (z : ℤ). code z % 256) back in
+    let high = ap (λ (bs : List ℕ). get_or bs 1 0) c.encode.ensures ∙ ap (λ (z : ℤ). code z / 256) back in
+    two_more c.args.buffer.now vs i (omega arith) (omega arith) c.loop-i.invariant low high
 
 pub returns : goal.returns
 returns c =
     let vs = c.args.values in
     let e : 2 * c.loop-i.i ≡ 40 = omega arith in
-    c.loop-i.invariant.1 ∙ rw e (copied_all c.args.buffer.now (octets vs) 40 (forty vs (search rules)))
+    c.loop-i.invariant ∙ rw e (copied_all c.args.buffer.now (octets vs) 40 (forty vs (search rules)))

@@ -5,7 +5,7 @@ use Rattle.signed.specs.CodeLaws.{read}
 use Rattle.signed.specs.RangeLaws.{size_in}
 use Rattle.signed.specs.Expressions.{Ex, Runs, run}
 use Rattle.package.specs.declared.records.Probe.{Probe}
-use Rattle.package.specs.declared.arguments.Raws.{Raws}
+use Rattle.package.specs.Given.{Raws}
 use Rattle.package.specs.declared.found.Pair.{Pair}
 use Rattle.rules.specs.Sizes.{Across, surface, pair_of}
 use Rattle.kinds.specs.Touches.{Positioned, across}
@@ -50,27 +50,27 @@ returns c =
     let low = c.surface_of-low.ensures in
     let high = c.surface_of-high.ensures in
     same_pair
-    ((wide_runs a.x a.q (across a.p) c.requires.positioned _ _ low high).value ∙ rw (low, high))
-    ((middle_runs a.x a.q (across a.p) c.requires.positioned _ _ low high).value ∙ rw (low, high))
-    ((moved_runs a.x a.q (across a.p) c.requires.positioned _ _ low high).value ∙ rw (low, high))
+    ((wide_runs a.x a.q (across a.p) c.requires _ _ low high).value ∙ rw (low, high))
+    ((middle_runs a.x a.q (across a.p) c.requires _ _ low high).value ∙ rw (low, high))
+    ((moved_runs a.x a.q (across a.p) c.requires _ _ low high).value ∙ rw (low, high))
     (read a.p.set (search rules))
 
 pub overflow_sub-result : goal.overflow_sub-result
 overflow_sub-result c =
-    search (wide_runs c.args.x c.args.q (across c.args.p) c.requires.positioned _ _ c.surface_of-low.ensures c.surface_of-high.ensures).asks
+    search (wide_runs c.args.x c.args.q (across c.args.p) c.requires _ _ c.surface_of-low.ensures c.surface_of-high.ensures).asks
 
 pub overflow_add-result : goal.overflow_add-result
 overflow_add-result c =
-    search (middle_runs c.args.x c.args.q (across c.args.p) c.requires.positioned _ _ c.surface_of-low.ensures c.surface_of-high.ensures).asks
+    search (middle_runs c.args.x c.args.q (across c.args.p) c.requires _ _ c.surface_of-low.ensures c.surface_of-high.ensures).asks
 
 pub overflow_add-result-2 : goal.overflow_add-result-2
 overflow_add-result-2 c =
-    search (middle_runs c.args.x c.args.q (across c.args.p) c.requires.positioned _ _ c.surface_of-low.ensures c.surface_of-high.ensures).asks
+    search (middle_runs c.args.x c.args.q (across c.args.p) c.requires _ _ c.surface_of-low.ensures c.surface_of-high.ensures).asks
 
 pub overflow_mul-result : goal.overflow_mul-result
 overflow_mul-result c =
-    search (moved_runs c.args.x c.args.q (across c.args.p) c.requires.positioned _ _ c.surface_of-low.ensures c.surface_of-high.ensures).asks
+    search (moved_runs c.args.x c.args.q (across c.args.p) c.requires _ _ c.surface_of-low.ensures c.surface_of-high.ensures).asks
 
 pub overflow_sub-result-2 : goal.overflow_sub-result-2
 overflow_sub-result-2 c =
-    search (moved_runs c.args.x c.args.q (across c.args.p) c.requires.positioned _ _ c.surface_of-low.ensures c.surface_of-high.ensures).asks
+    search (moved_runs c.args.x c.args.q (across c.args.p) c.requires _ _ c.surface_of-low.ensures c.surface_of-high.ensures).asks

@@ -17,8 +17,8 @@ use Rattle.tool_measuring.proofs.put_tool.Goals as goal
 value : (m : ℤ) → SFits w64 m → value_range m ≡ true → Cast w32 m
 value m f h = casts w32 (minus 32768) (pos 32767) f tt tt h
 
-pub overflow_cast-value : goal.overflow_cast-value
-overflow_cast-value c = (value c.args.mean c.ranges.mean c.requires.mean_value).fits
+pub overflow_cast-mean : goal.overflow_cast-mean
+overflow_cast-mean c = (value c.args.mean c.ranges.mean c.requires.mean_value).fits
 
 pub put_record-requires-2-clause-n_value : goal.put_record-requires-2-clause-n_value
 put_record-requires-2-clause-n_value c =

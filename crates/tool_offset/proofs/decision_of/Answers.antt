@@ -6,7 +6,7 @@ use Rattle.signed.specs.Magnitudes.{abs_pos}
 use Rattle.signed.specs.Ranges.{eq_z}
 use Rattle.signed.specs.RangeLaws.{within_is, ≤ℤ-trans}
 use Rattle.signed.specs.CodeLaws.{widened, read}
-use Rattle.package.specs.declared.arguments.ToolMeasurement.{ToolMeasurement}
+use Rattle.package.specs.Given.{ToolMeasurement}
 use Rattle.rules.specs.Mean.{mean_step}
 use Rattle.rules.specs.Tool.{weight, branch_of, decided}
 use Rattle.rules.proofs.InRange.{left_in_range}
@@ -27,34 +27,34 @@ next_size mean d m a e h f k =
 
 pub decide-requires : goal.decide-requires
 decide-requires c =
-    let a = c.args.a in
+    let a = c.args.p.given in
     let m = c.mean_step-next in
     let old = (widened w16 w64 c.args.mean tt c.ranges.mean.sfits).value in
     let d = to_z-of_z c.ranges.d in
     let k : to_z w64 (of_z w64 a.k) ≡ a.k = search rules in
     let next : m.result ≡ mean_step c.args.mean c.args.d (weight a) = rw (old, d, k) at m.ensures in
-    let size = next_size c.args.mean c.args.d m.result a next c.requires.0 c.ranges.mean.sfits c.requires.1 in
-    rw (read m.result m.type_inv, d) (omega (arith, size), omega (arith, c.requires.1))
+    let size = next_size c.args.mean c.args.d m.result a next c.args.p.passed c.ranges.mean.sfits c.requires in
+    rw (read m.result m.type_inv, d) (omega (arith, size), omega (arith, c.requires))
 
 pub returns : goal.returns
 unfolding decided
 returns c =
-    let a = c.args.a in
+    let a = c.args.p.given in
     let m = c.mean_step-next in
     let z = a.limits in
-    let l = c.requires.0.limits in
+    let l = c.args.p.passed.limits in
     let old = (widened w16 w64 c.args.mean tt c.ranges.mean.sfits).value in
     let d = to_z-of_z c.ranges.d in
     let k : to_z w64 (of_z w64 a.k) ≡ a.k = search rules in
     let mv : to_z w64 (of_z w64 a.mv) ≡ a.mv = search rules in
     let next : m.result ≡ mean_step c.args.mean c.args.d (weight a) = rw (old, d, k) at m.ensures in
-    let size = next_size c.args.mean c.args.d m.result a next c.requires.0 c.ranges.mean.sfits c.requires.1 in
-    let e = rw (old, read m.result m.type_inv, d, c.same.ensures, mv) at c.decide.ensures in
+    let size = next_size c.args.mean c.args.d m.result a next c.args.p.passed c.ranges.mean.sfits c.requires in
+    let e = rw (old, read m.result m.type_inv, d, c.names_mean.ensures, mv) at c.decide.ensures in
     let named = not (eq_z a.mv (pos 0)) in (
       e ∙ rw next,
       rw e
           (record {
-            correction = correction_size 100000000 (branch_of z named m.result c.args.d) m.result c.args.d size c.requires.1;
+            correction = correction_size 100000000 (branch_of z named m.result c.args.d) m.result c.args.d size c.requires;
             mean = left_in_range z named c.args.mean m.result c.args.d (≤ℤ-trans z.tzl z.tmv (pos 32767) l.tzl_tmv l.tmv_top)
                 (small_value c.args.mean c.ranges.mean.sfits);
           }),

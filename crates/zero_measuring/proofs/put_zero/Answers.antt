@@ -12,4 +12,4 @@ pub put_record-requires-clause-n_value : goal.put_record-requires-clause-n_value
 put_record-requires-clause-n_value c =
     let z = c.args.a.offset in
     let read : to_z w64 (of_z w64 z) ≡ z = search rules in
-    ap (within (pos 0) (pos 4)) read ∙ or_zero 4 z c.requires.zero_numbers.offset
+    ap (within (pos 0) (pos 4)) read ∙ or_zero 4 z c.requires.offset

@@ -1,0 +1,10 @@
+-- Each test is that of the rules on the kind and the sizes of what was given.
+use Rattle.std.proofs.Common.{◌∙◌}
+use Rattle.zero_offset.proofs.Laws.{calibrated_is, pairs_is, tests_are}
+use Rattle.zero_offset.proofs.FoundZero.tests.Goals as goal
+
+pub returns : goal.returns
+returns c =
+    let f = c.args.self in
+    let e = c.probed-probed.ensures in
+    tests_are f ((rw (e.0, e.1) at c.calibrated.ensures) ∙ calibrated_is f) ((rw (e.0, e.1) at c.wide.ensures) ∙ pairs_is f) c.growths_ok.ensures c.axes_ok.ensures
