@@ -28,14 +28,12 @@ mod measure;
 mod print;
 mod read;
 mod rows;
+mod stores;
 
-use area::AREA;
 use std::fs::File;
 use std::io;
 use std::rt::Files;
-
-// What each number of an area is before the first row.
-const UNSET: i32 = 7;
+use stores::Lent;
 
 fn main(rt: HostRuntime) -> io::Result<()> {
     file(&rt, "setup.txt")?;
@@ -55,9 +53,9 @@ fn file(rt: &(impl Files + Print + AllocGlobal), name: &str) -> io::Result<()> {
     if text.is_empty() {
         return println!(rt; "{name}: ?");
     }
-    let mut area = [UNSET; AREA];
+    let mut lent = Lent::new(rt.alloc());
     for line in text.lines() {
-        rt.print(rows::line_shown(rt.alloc(), &mut area, line)?)?;
+        rt.print(rows::line_shown(&mut lent, line)?)?;
     }
     Ok(())
 }

@@ -1,31 +1,6 @@
-// The records of an area, and how their numbers are shown.
-ghost use Rattle.std.specs.Prelude.{◌≤◌};
-ghost use Rattle.layout.specs.Layout.{end};
-ghost use Rattle.area.specs.Table.{area_length};
-
-use area::AREA;
-use layout::Section;
+// How the numbers of an area are shown.
 use package::records::Status;
 use std::fmt;
-
-// The record of a section with this number, counted from 1. No call of a user.
-pub fn record(area: &[i32; AREA], s: Section, n: i64) -> Option<&[i32]>
-    requires { end s ≤ area_length }
-{
-    let i = usize::try_from(n).ok()?.checked_sub(1)?;
-    if s.count <= i {
-        return None;
-    }
-    let at = s.at + s.width * i;
-    Some(&area[at..at + s.width])
-}
-
-// All numbers of a section. No call of a user.
-pub fn section(area: &[i32; AREA], s: Section) -> &[i32]
-    requires { end s ≤ area_length }
-{
-    &area[s.at..s.at + s.width * s.count]
-}
 
 // All numbers, each after a space.
 #[derive(Clone, Copy)]

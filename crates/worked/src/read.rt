@@ -75,7 +75,7 @@ pub fn numbers<T: FromStr<Err = ParseIntError> + Drop>(
     Ok(numbers)
 }
 
-// A number has no plus sign.
+// Not by parse alone, which takes a plus sign: a number of a row has none.
 fn number<T: FromStr<Err = ParseIntError> + Drop>(field: &str) -> Result<T, RowError> {
     if field.starts_with('+') {
         return Err(RowError::Unread);

@@ -1,8 +1,8 @@
 // The lines of a file, and what each shows.
-use crate::answers::run;
+use crate::answers::Part;
 use crate::read::RowError;
-use area::AREA;
-use std::alloc::{AllocError, Global};
+use crate::stores::Lent;
+use std::alloc::AllocError;
 
 // How much is shown of a row, by the mark before it: all where there is none; the row and its refusal; the refusal alone; nothing.
 #[derive(Clone, Copy, Debug, PartialEq, Eq)]
@@ -31,12 +31,12 @@ enum Line<'a> {
 }
 
 // What a line shows.
-pub fn line_shown(alloc: Global, area: &mut [i32; AREA], line: &str) -> Result<String, AllocError> {
+pub fn line_shown(lent: &mut Lent, line: &str) -> Result<String, AllocError> {
     match Line::of(line) {
-        Line::Remark => Ok(String::new(alloc)),
-        Line::Text("") => String::from_str(alloc, "\n"),
-        Line::Text(text) => String::from_str(alloc, text),
-        Line::Row(row) => row.answered(alloc, area),
+        Line::Remark => Ok(String::new(lent.alloc)),
+        Line::Text("") => String::from_str(lent.alloc, "\n"),
+        Line::Text(text) => String::from_str(lent.alloc, text),
+        Line::Row(row) => row.answered(lent),
     }
 }
 
@@ -67,15 +67,15 @@ impl<'a> Row<'a> {
         }
     }
 
-    fn answered(self, alloc: Global, area: &mut [i32; AREA]) -> Result<String, AllocError> {
-        let answered = match run(alloc, area, self.title, self.call) {
-            Ok(answer) => answer.text(alloc, self.shown)?,
-            Err(RowError::Unread) => String::from_str(alloc, " ?")?,
+    fn answered(self, lent: &mut Lent) -> Result<String, AllocError> {
+        let answered = match lent.run(self.title, self.call) {
+            Ok(answer) => Part(&answer, self.shown).to_string(lent.alloc)?,
+            Err(RowError::Unread) => String::from_str(lent.alloc, " ?")?,
             Err(RowError::OutOfMemory) => return Err(AllocError),
         };
         match self.shown {
             Shown::Whole | Shown::Answer => {
-                format!(in alloc; "{}:{answered}{}\n", self.title, self.tail)
+                format!(in lent.alloc; "{}:{answered}{}\n", self.title, self.tail)
             }
             Shown::Refusal | Shown::Nothing => Ok(answered),
         }
