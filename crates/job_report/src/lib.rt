@@ -44,14 +44,13 @@ impl JobError {
     pub fn refused(job: &[u8]) -> JobError
         ensures { result ≡ cause job.now }
     {
-        let size = job.len();
-        if size == 0 {
+        let Some(last) = job.last() else {
             return JobError::Empty;
-        }
-        if JOB_LIMIT < size {
+        };
+        if JOB_LIMIT < job.len() {
             return JobError::TooLong;
         }
-        if job[size - 1] != LINE_FEED {
+        if *last != LINE_FEED {
             return JobError::Unended;
         }
         JobError::TooManyLines
@@ -84,7 +83,7 @@ pub fn say_of_file(errors: &impl Print, name: &[u8], e: JobError) -> io::Result<
     println!(errors; ": {e}")
 }
 
-// What is said of the arguments.
+// What is said of the arguments. A function beside say_of_file, since both begin the line with the name of the program.
 pub fn say(errors: &impl Print, e: JobError) -> io::Result<()> {
     println!(errors; "measure: {e}")
 }
