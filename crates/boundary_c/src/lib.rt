@@ -57,7 +57,7 @@ pub extern "C" fn mezhtolik_set_offset(
     refusal_in(zero_setting::set_offset(area, offset, v1, v2, v3))
 }
 
-// Calibrates one direction of a probe.
+// Calibrates one direction of a probe. Axis and direction are numbers, here and in the next call, since C gives numbers.
 #[unsafe(no_mangle)]
 pub extern "C" fn mezhtolik_calibrate(
     area: &mut [i32],
@@ -121,7 +121,7 @@ pub extern "C" fn mezhtolik_probe_status(area: &[i32], probe: i64) -> Status
     status_reading::probe_status(area, probe).into()
 }
 
-// Measures with tool offset by 21 numbers and writes the 42 numbers that begin at place.
+// Measures with tool offset by 21 numbers and writes the 42 numbers that begin at place. C lends a buffer and names a place in it, in all four calls.
 #[unsafe(no_mangle)]
 pub extern "C" fn mezhtolik_measure_tool(
     area: &mut [i32],

@@ -9,7 +9,7 @@ ghost use Rattle.result_sizes.specs.ResultSizes.{Small};
 use package::arguments::Probing;
 use package::found::{Form, Kind, Sizes};
 
-// A number small enough for the array. No call of a user.
+// A number small enough for the array. No call of a user. A cast, since try_from would bring an Err that no caller can meet.
 pub fn narrow(v: i64) -> i32
     requires { nat_abs v ≤ 1000000000 }
     ensures { result ≡ v }
@@ -33,6 +33,7 @@ pub fn size_numbers(k: Kind, a: Probing, s: Sizes, ev: i64) -> [i32; 42]
     ensures { result ≡ array (size_entries k a s ev) }
 {
     let form = k.form;
+    // Place by place, as the manual numbers them: a literal of 42 numbers would show no place.
     let mut n = [0i32; 42];
     n[0] = narrow(s.held.setpoint);
     n[1] = narrow(s.abscissa.set);

@@ -40,6 +40,7 @@ pub enum TitleWord {
 }
 
 impl TitleWord {
+    // An Option, and no FromStr with an error: most titles have none of these words.
     pub fn of(text: &str) -> Option<TitleWord>
         ensures part { (result ≡ Some TitleWord.Part) ↔ (text.now ≡ codes "part") }
         ensures report { (result ≡ Some TitleWord.Report) ↔ (text.now ≡ codes "report") }
