@@ -4,15 +4,14 @@ use Rattle.std.proofs.Common.{arith, length-append}
 use Rattle.decimals.specs.DecimalLaws.{decimal_length, signed_length}
 use Rattle.rules.specs.Refusals.{greatest_refusal}
 use Rattle.rules.specs.EvaluationLaws.{EvaluationSmall}
-use Rattle.job_answers.specs.LineAnswers.{row_text}
-use Rattle.job_answers.specs.declared.Row.{Row}
+use Rattle.job_answers.specs.LineAnswers.{Answer, row_text}
 
-pub record Small (r : Row) : Type 0 where
+pub record Small (r : Answer) : Type 0 where
   pub number : r.number ≤ 1000
   pub refusal : r.refusal ≤ greatest_refusal
   pub evaluation : EvaluationSmall r.evaluation
 
-pub at_most_40 : (r : Row) → Small r → nat_abs r.evaluation.deviation ≤ 9999999999 → nat_abs r.evaluation.correction ≤ 9999999999
+pub at_most_40 : (r : Answer) → Small r → nat_abs r.evaluation.deviation ≤ 9999999999 → nat_abs r.evaluation.correction ≤ 9999999999
     → length (row_text r) ≤ 40
 at_most_40 r s d c =
     simp length-append (omega (

@@ -3,18 +3,18 @@
 
 ghost use Rattle.std.specs.Prelude.{◌≡◌, ◌+◌, ◌≤◌, length};
 ghost use Rattle.lists.specs.Written.{written};
-ghost use Rattle.job_answers.specs.LineAnswers.{whole_field, signed_field, evaluation_text, row_text};
+ghost use Rattle.job_answers.specs.LineAnswers.{whole_field, signed_field, evaluation_text, row_text, answer_in};
 
 use decimals::{put_byte, put_number, put_whole};
 use package::found::Evaluation;
+use package::refusals::{Refusal, refusal_in};
 use text::{COMMA, LINE_FEED};
 
-// What a line answers.
+// What a line answers; one that measures nothing has the evaluation of zeros.
 #[derive(Drop)]
 pub struct Row {
     pub number: u32,
-    pub refusal: u32,
-    pub evaluation: Evaluation,
+    pub answer: Result<Evaluation, Refusal>,
 }
 
 // Writes a number and the byte behind it from a place on, and answers the next place.
@@ -47,11 +47,10 @@ fn put_evaluation(out: &mut [u8], at: usize, e: Evaluation) -> usize
 
 // Writes the answer of a line from a place on, and answers the next place. No call of a user.
 pub fn put_row(out: &mut [u8], at: usize, r: Row) -> usize
-    requires { at + length (row_text r) ≤ length out.old }
-    ensures { (result ≡ at + length (row_text r)) × (out.new ≡ written out.old at (row_text r)) }
+    requires { at + length (row_text (answer_in r)) ≤ length out.old }
+    ensures { (result ≡ at + length (row_text (answer_in r))) × (out.new ≡ written out.old at (row_text (answer_in r))) }
 {
-    let e = r.evaluation;
     let refusal = put_whole_field(out, at, r.number, COMMA);
-    let branch = put_whole_field(out, refusal, r.refusal, COMMA);
-    put_evaluation(out, branch, e)
+    let branch = put_whole_field(out, refusal, refusal_in(r.answer), COMMA);
+    put_evaluation(out, branch, r.answer.unwrap_or_default())
 }

@@ -2,8 +2,7 @@
 use Rattle.std.specs.Prelude.{List, ℕ, ℤ}
 use Rattle.job_text.specs.Lines.{Said, malformed, says}
 use Rattle.area.specs.Called.{Called, unmeasured, called}
-use Rattle.job_answers.specs.LineAnswers.{row}
-use Rattle.job_answers.specs.declared.Row.{Row}
+use Rattle.job_answers.specs.LineAnswers.{Answer, row}
 
 -- "A line: 10 malformed or too long, else its operation's."
 abbrev pub line_called : List ℤ → Said → Called
@@ -12,10 +11,10 @@ line_called area (says c) = called area c
 
 -- the answer of line n and the area after it
 pub record Ran : Type 0 where
-  pub row : Row
+  pub row : Answer
   pub area : List ℤ
 
-abbrev pub ran_as : Row → List ℤ → Ran
+abbrev pub ran_as : Answer → List ℤ → Ran
 ran_as row area = record { row = row; area = area }
 
 abbrev pub line_ran : List ℤ → ℕ → Said → Ran

@@ -4,21 +4,21 @@ use Rattle.std.proofs.Common.{ap, ◌∙◌}
 use Rattle.rules.specs.Calls.{Call}
 use Rattle.package.specs.declared.refusals.Refusal.{Refusal}
 use Rattle.package.specs.declared.found.Evaluation.{Evaluation}
+use Rattle.package.specs.Refusals.{refusal_in}
 use Rattle.area.specs.Called.{Called, answered_by, called}
 use Rattle.job_text.specs.Lines.{Said, says}
-use Rattle.job_answers.specs.LineAnswers.{row}
-use Rattle.job_answers.specs.declared.Row.{Row}
-use Rattle.job_lines.specs.LineCalled.{ran_as, line_ran}
+use Rattle.job_answers.specs.LineAnswers.{Answer, row, evaluation_in}
+use Rattle.job_lines.specs.LineCalled.{ran_as, line_called, line_ran}
 
-pub call_ran : (area : List ℤ) (n : ℕ) (c : Call) {s : Said} {a : Called} {r : Row} → a ≡ called area c → r ≡ row n a.refusal a.evaluation → says c ≡ s
+pub call_ran : (area : List ℤ) (n : ℕ) (c : Call) {s : Said} {a : Called} {r : Answer} → a ≡ called area c → r ≡ row n a.refusal a.evaluation → says c ≡ s
     → ran_as r a.area ≡ line_ran area n s
 call_ran area n c {a = a} e q k =
-    ap (λ (x : Row). ran_as x a.area) q
+    ap (λ (x : Answer). ran_as x a.area) q
     ∙ ap (λ (x : Called). ran_as (row n x.refusal x.evaluation) x.area) e
     ∙ ap (line_ran area n) k
 
--- a line that measures
-pub measured_ran : (area : List ℤ) (n : ℕ) (c : Call) (e : Result Evaluation Refusal) (new : List ℤ) {s : Said} {r : Row} → answered_by e new ≡ called area c
-    → ((zs : List ℤ) → r ≡ row n (answered_by e zs).refusal (answered_by e zs).evaluation) → says c ≡ s → ran_as r new ≡ line_ran area n s
-measured_ran area n c (Ok v) new h q k = call_ran area n c h (q new) k
-measured_ran area n c (Err x) new h q k = call_ran area n c h (q new) k
+-- the answer of a line, whatever it says
+pub answer_ran : (area : List ℤ) (n : ℕ) (s : Said) (e : Result Evaluation Refusal) (new : List ℤ) → answered_by e new ≡ line_called area s
+    → ran_as (row n (refusal_in e) (evaluation_in e)) new ≡ line_ran area n s
+answer_ran area n s (Ok x) new h = ap (λ (x : Called). ran_as (row n x.refusal x.evaluation) x.area) h
+answer_ran area n s (Err r) new h = ap (λ (x : Called). ran_as (row n x.refusal x.evaluation) x.area) h

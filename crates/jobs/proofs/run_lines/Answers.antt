@@ -1,17 +1,23 @@
 -- After each turn the lines that are left, run on the area as it is, come to what all come to, and the output so far is the text of those before.
-use Rattle.std.proofs.Common.{◌≡◌, ◌∙◌, ap, sym, subst, ℕ, ◌+◌, ◌-◌, ◌^◌, ◌<◌, ◌≤◌, List, ◌∷◌, ◌++◌, ℤ, length, take, drop, arith, append_assoc, append-nil, length-drop, length-take-le, take-append-drop, drop-drop, rules}
+use Rattle.std.proofs.Common.{◌≡◌, refl, ◌∙◌, ap, sym, subst, ℕ, ◌+◌, ◌-◌, ◌^◌, ◌<◌, ◌≤◌, List, ◌∷◌, ◌++◌, ℤ, length, take, drop, arith, append_assoc, append-nil, length-drop, length-take-le, take-append-drop, drop-drop, rules}
 use lib.Signed.{mag, nat_abs-le}
+use Rattle.std.specs.Prelude.{Result, Ok, Err}
+use Rattle.package.specs.declared.refusals.Refusal.{Refusal}
+use Rattle.package.specs.declared.found.Evaluation.{Evaluation}
+use Rattle.package.specs.Refusals.{refusal_in}
 use Rattle.lists.specs.Copied.{part_end}
 use Rattle.lists.specs.Written.{written}
 use Rattle.lists.specs.WrittenLaws.{written_length, written_take, written_drop}
 use Rattle.text.specs.Pieces.{line, HasLine, lines}
 use Rattle.text.specs.PieceLaws.{lines_first, lines_end, has_line}
 use Rattle.area.specs.Table.{area_length}
+use Rattle.area.specs.Called.{answered_by}
 use Rattle.job_limits.specs.JobRuleLaws.{Runs, runs_when}
 use Rattle.job_text.specs.Lines.{Said, said_by}
-use Rattle.job_answers.specs.LineAnswers.{row_text}
+use Rattle.job_answers.specs.LineAnswers.{row, evaluation_in, row_text}
 use Rattle.job_answers.specs.AnswerLaws.{Small, at_most_40}
-use Rattle.job_lines.specs.LineCalled.{Ran, ran_as, line_ran}
+use Rattle.job_lines.specs.LineCalled.{line_called, Ran, ran_as, line_ran}
+use Rattle.job_lines.specs.LineCalledLaws.{answer_ran}
 use Rattle.jobs.specs.Jobs.{lines_area, lines_text}
 use Rattle.jobs.specs.JobLaws.{text_step, area_step, text_none, area_none, row_small, drop_more, from_start}
 use Rattle.jobs.proofs.run_lines.Goals as goal
@@ -39,17 +45,26 @@ module _ (job : List ℕ) (n : ℕ) (runs : Runs job n) (at : ℕ) (h : at < len
     counted number i = let m = ap length more_lines in (omega (arith, i, m), omega (arith, i, m, runs.count))
 
 -- what the line leaves and answers
-stepped : (job : List ℕ) (at : ℕ) (area : List ℤ) (number : ℕ) (o : Ran) (s : Said) → o ≡ line_ran area (number + 1) s
-    → s ≡ said_by (line (take (length job - at) (drop at job))) → o ≡ line_ran area (number + 1) (said_by (line (drop at job)))
-stepped job at area number o s e k =
-    e ∙ ap (line_ran area (number + 1)) (k ∙ ap (λ (x : List ℕ). said_by (line x)) (part_end job at))
+abbrev ran : ℕ → Result Evaluation Refusal → List ℤ → Ran
+ran number e new = ran_as (row (number + 1) (refusal_in e) (evaluation_in e)) new
+
+stepped : (job : List ℕ) (at : ℕ) (area : List ℤ) (number : ℕ) (e : Result Evaluation Refusal) (new : List ℤ) (s : Said) → answered_by e new ≡ line_called area s
+    → s ≡ said_by (line (take (length job - at) (drop at job))) → ran number e new ≡ line_ran area (number + 1) (said_by (line (drop at job)))
+stepped job at area number e new s h k =
+    answer_ran area (number + 1) s e new h ∙ ap (line_ran area (number + 1)) (k ∙ ap (λ (x : List ℕ). said_by (line x)) (part_end job at))
+
+-- an answer's numbers fit their type, the zeros of a refused line too
+fitting : (e : Result Evaluation Refusal) → ((x : Evaluation) → e ≡ Ok x → (mag x.deviation < 2 ^ 31) × (mag x.correction < 2 ^ 31))
+    → (mag (evaluation_in e).deviation < 2 ^ 31) × (mag (evaluation_in e).correction < 2 ^ 31)
+fitting (Ok x) f = f x refl
+fitting (Err r) f = (omega arith, omega arith)
 
 short : (area : List ℤ) (number : ℕ) (o : Ran) (s : Said) → length area ≡ area_length → number + 1 ≤ 1000 → o ≡ line_ran area (number + 1) s
-    → mag o.row.evaluation.deviation < 2 ^ 31 → mag o.row.evaluation.correction < 2 ^ 31 → length (row_text o.row) ≤ 40
-short area number o s whole h e d c =
+    → (mag o.row.evaluation.deviation < 2 ^ 31) × (mag o.row.evaluation.correction < 2 ^ 31) → length (row_text o.row) ≤ 40
+short area number o s whole h e m =
     at_most_40 o.row (subst (λ (x : Ran). Small x.row) (sym e) (row_small area (number + 1) s whole h))
-    (omega (arith, nat_abs-le o.row.evaluation.deviation {H = 2 ^ 31} d))
-    (omega (arith, nat_abs-le o.row.evaluation.correction {H = 2 ^ 31} c))
+    (omega (arith, nat_abs-le o.row.evaluation.deviation {H = 2 ^ 31} m.0))
+    (omega (arith, nat_abs-le o.row.evaluation.correction {H = 2 ^ 31} m.1))
 
 pub invariant_of-rest : goal.invariant_of-rest
 invariant_of-rest c =
@@ -69,9 +84,10 @@ put_row-filled-requires c =
     let i = c.loop-at.invariant in
     let r = runs_when job (length c.args.output.now) c.requires.1 in
     let k = counted job _ r c.loop-at.at (omega arith) _ c.read_line-line.ensures.1 c.loop-at.number i.left in
-    let e = stepped job c.loop-at.at c.loop-at.area c.loop-at.number (ran_as c.run_line-row.result c.run_line-row.new.area) _ c.run_line-row.ensures
+    let e = stepped job c.loop-at.at c.loop-at.area c.loop-at.number c.run_line-answer.result c.run_line-answer.new.area _ c.run_line-answer.ensures
     c.read_line-line.ensures.0 in
-    let s = short c.loop-at.area c.loop-at.number _ _ i.whole k.1 e (search rules) (search rules) in
+    let fit = fitting c.run_line-answer.result (λ x q. let t = rw q at c.run_line-answer.type_inv in (search (rules, t), search (rules, t))) in
+    let s = short c.loop-at.area c.loop-at.number _ _ i.whole k.1 e fit in
     omega (arith, s, k.0, r.room, i.filled, i.room)
 
 pub loop-at-preserved : goal.loop-at-preserved
@@ -90,9 +106,10 @@ loop-at-preserved c =
     let k = counted job _ r at (omega arith) _ f number i.left in
     let w = within job _ r at (omega arith) _ f in
     let later = lines (drop (at + (c.read_line-line.result.length + 1)) job) in
-    let o : Ran = ran_as c.run_line-row.result c.run_line-row.new.area in
-    let e = stepped job at area number o _ c.run_line-row.ensures c.read_line-line.ensures.0 in
-    let s = short area number o _ i.whole k.1 e (search rules) (search rules) in
+    let o : Ran = ran number c.run_line-answer.result c.run_line-answer.new.area in
+    let e = stepped job at area number _ c.run_line-answer.new.area _ c.run_line-answer.ensures c.read_line-line.ensures.0 in
+    let fit = fitting c.run_line-answer.result (λ x q. let t = rw q at c.run_line-answer.type_inv in (search (rules, t), search (rules, t))) in
+    let s = short area number o _ i.whole k.1 e fit in
     let t = row_text o.row in
     let p : c.put_row-filled.result ≡ n + length t = c.put_row-filled.ensures.0 in
     let b : c.put_row-filled.new.out ≡ written out n t = c.put_row-filled.ensures.1 in
@@ -101,7 +118,7 @@ loop-at-preserved c =
       within = omega (arith, w);
       left = k.0;
       filled = omega (arith, p, s, i.filled);
-      whole = c.run_line-row.auto.area ∙ i.whole;
+      whole = c.run_line-answer.auto.area ∙ i.whole;
       room = ap length b ∙ written_length out n t h ∙ i.room;
       behind = rw (p, b) (written_drop out n t h ∙ drop_more out old n (length t) i.behind);
       text = rw (p, b, written_take out n t h)
