@@ -20,7 +20,7 @@ pub fn tests_of(p: PassedTool, f: FoundTool) -> Tests
     let far = magnitude(found.deviation);
     Tests {
         calibrated: found.calibrated,
-        pairs: wide(p.probed(), found.sizes),
+        pairs: wide(p.probed, found.sizes),
         tsa: far <= limits.tsa,
         tdif: far <= limits.tdif,
         range: in_range(found.wear, -WEAR_LIMIT, WEAR_LIMIT),

@@ -10,6 +10,7 @@ ghost use Rattle.rules.specs.Refusals.{first};
 ghost use Rattle.rules.specs.Readings.{raws_of};
 ghost use Rattle.rules.specs.Sizes.{numbers_ok, positions_ok};
 ghost use Rattle.kinds.specs.Touches.{Touches};
+ghost use Rattle.kinds.specs.KindLaws.{touches_prop};
 ghost use Rattle.kind_tests.specs.Probing.{probing_rules, NumbersIf};
 
 use floats::{Raw, positions_of};
@@ -20,14 +21,16 @@ use package::limits::{POSITION_LIMIT, PROBE_COUNT};
 use package::refusals::Refusal;
 use signed::in_range;
 
-// What is probed, tested: the numbers that its kind uses are numbers of their stores, its positions, set centres and setpoint in range.
+// What is probed, tested, and what that touches: the numbers that its kind uses are numbers of their stores, its positions, set centres and setpoint in range.
 #[derive(Clone, Copy)]
 pub struct Probed {
     pub kind: Kind,
     pub probing: Probing,
     pub raws: Raws<i64>,
+    pub surfaces: Surfaces,
     pub ghost numbers: { numbers_ok kind probing ≡ true },
     pub ghost positions: { positions_ok kind probing raws ≡ true },
+    pub ghost touched: { Touches kind probing surfaces } by { touches_prop kind probing surfaces },
 }
 
 impl Probed {
@@ -43,17 +46,11 @@ impl Probed {
                 kind,
                 probing,
                 raws,
+                surfaces,
             })
         } else {
             Err(Refusal::OutsideRange)
         }
-    }
-
-    // The surfaces that are touched.
-    pub fn surfaces(self) -> Surfaces
-        ensures { Touches self.kind self.probing result }
-    {
-        surfaces_of(self.kind, self.probing).unwrap()
     }
 }
 

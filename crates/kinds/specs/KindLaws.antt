@@ -1,7 +1,8 @@
 -- What the tests of a kind's arguments tell: of its probe, of a plane, and of every pair.
-use Rattle.std.specs.Prelude.{◌≡◌, refl, Bool, true, false, cond, ◌&&◌, [], ◌∷◌, zero, suc, ℤ, pos, negsuc, Result, Ok, Err, IsOk}
+use Rattle.std.specs.Prelude.{◌≡◌, refl, Bool, true, false, cond, ◌&&◌, [], ◌∷◌, zero, suc, ℤ, pos, negsuc, Ok, Err}
 use Rattle.std.proofs.Math.Bool.{and-eq-true_iff}
 use Rattle.std.proofs.Common.{sym, ◌∙◌, arith}
+use Rattle.std.proofs.Props.{props}
 use Rattle.signed.specs.Ranges.{within}
 use Rattle.signed.specs.RangeLaws.{true_T, below_top}
 use Rattle.lists.specs.Each.{Each, every, every_each}
@@ -18,7 +19,8 @@ use Rattle.rules.specs.Probes.{on}
 use Rattle.rules.specs.Kinds.{kind, by_form}
 use Rattle.rules.specs.Sizes.{pairs, touches, raw_at, numbers_ok, positions_ok}
 use Rattle.kinds.specs.declared.Surfaces.{Surfaces}
-use Rattle.kinds.specs.Touches.{known, Placed, Positioned, TouchesIf}
+use Rattle.kinds.specs.declared.Surfaces.TheVariants.{Plane as Flat, Pair, Pairs}
+use Rattle.kinds.specs.Touches.{known, Placed, Positioned, Touches}
 
 -- ---- the kind of a number, and refusal 2 where it is none's
 pub known_is : (b : Bool) (k : Kind) {j : Kind} → known b k ≡ Ok j → (b ≡ true) × (j ≡ k)
@@ -46,10 +48,6 @@ module _ (k : Kind) (a : Probing) (passed : numbers_ok k a ≡ true) where
       (by_form k.form (axis_number a.axis && direction_number a.direction) (within (pos 1) (pos 2) a.axis) true ≡ true)
   unfolding numbers_ok
   numbers = (and-eq-true_iff (probe_number a.probe) _).0 passed
-
-  pub surfaces_named : (r : Result Surfaces Refusal) → TouchesIf k a r → IsOk r
-  surfaces_named (Ok s) t = refl
-  surfaces_named (Err e) t = absurd (true_T (sym t.0 ∙ numbers.1))
 
   pub probe_number_lem : probe_number a.probe ≡ true
   probe_number_lem = numbers.0
@@ -108,3 +106,9 @@ module _ (k : Kind) (a : Probing) (q : Raws) (passed : positions_ok k a q ≡ tr
       go Single t s = (record { low = t.0; high = t.1.0; set = s.0 }, tt)
       go Double t s =
           (record { low = t.0; high = t.1.0; set = s.0 }, (record { low = t.1.1.0; high = t.1.1.1.0; set = s.1.0 }, tt))
+
+-- ---- what is touched is a fact
+pub touches_prop : (k : Kind) (a : Probing) (s : Surfaces) → IsProp (Touches k a s)
+touches_prop k a (Flat t) = Prim.hlevel props
+touches_prop k a (Pair p) = Prim.hlevel props
+touches_prop k a (Pairs b) = Prim.hlevel props

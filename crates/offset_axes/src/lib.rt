@@ -17,9 +17,9 @@ use zero_refusals::PassedZero;
 
 // Whether the growth of an axis keeps to TSA, which is doubled for h.
 pub fn growth_ok(z: PassedZero, s: MeasuredSizes, axis: Axis) -> bool
-    ensures { result ≡ within_twice_tsa z.given (growth z.kind z.given.probing s.sizes (axis_number axis)) }
+    ensures { result ≡ within_twice_tsa z.given (growth z.probed.kind z.given.probing s.sizes (axis_number axis)) }
 {
-    magnitude(growth_of(z.probed(), s, axis)) <= 2 * z.given.tsa
+    magnitude(growth_of(z.probed, s, axis)) <= 2 * z.given.tsa
 }
 
 // The number of an offset on an axis.

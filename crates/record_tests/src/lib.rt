@@ -28,7 +28,7 @@ fn pair_calibrated(x: Probe, p: Across) -> bool
 pub fn calibrated(x: Probe, p: Probed) -> bool
     ensures { result ≡ calibrated_ok x.status p.kind p.probing }
 {
-    match p.surfaces() {
+    match p.surfaces {
         Surfaces::Plane(touch) => calibrated_on(x, touch.way),
         Surfaces::Pair(pair) => pair_calibrated(x, pair),
         Surfaces::Pairs(both) => {
@@ -52,7 +52,7 @@ fn width_on(s: Sizes, axis: Axis) -> i64
 pub fn wide(p: Probed, s: Sizes) -> bool
     ensures { result ≡ pairs_ok p.kind p.probing s }
 {
-    match p.surfaces() {
+    match p.surfaces {
         Surfaces::Plane(_) => true,
         Surfaces::Pair(pair) => 1 <= width_on(s, pair.low.way.axis),
         Surfaces::Pairs(_) => (1 <= s.abscissa.width) & (1 <= s.ordinate.width),

@@ -32,7 +32,7 @@ impl Numbers for DoneTool {
         let a = self.passed.given;
         let f = self.found.found;
         let sizes = f.sizes;
-        let mut n = size_numbers(self.passed.kind, a.probing, sizes, f.ev);
+        let mut n = size_numbers(self.passed.probed.kind, a.probing, sizes, f.ev);
         n[8] = narrow(sizes.held.setpoint + a.limits.tul);
         n[12] = narrow(sizes.held.setpoint + a.limits.tll);
         n[20] = narrow(f.decision.correction);
@@ -55,7 +55,7 @@ impl Numbers for DoneZero {
 
     fn numbers(self) -> [i32; 42] {
         let a = self.passed.given;
-        let mut n = size_numbers(self.passed.kind, a.probing, self.measured.sizes, 0);
+        let mut n = size_numbers(self.passed.probed.kind, a.probing, self.measured.sizes, 0);
         n[28] = narrow(a.tsa);
         n[32] = narrow(a.offset);
         n

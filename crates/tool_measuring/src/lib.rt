@@ -2,13 +2,16 @@
 #![tactic(auto)]
 
 ghost use Rattle.std.specs.Prelude.{◌≡◌, true, [], ◌∷◌};
-ghost use Rattle.package.specs.Given.{tool_by};
+ghost use Rattle.package.specs.Given.{ToolReadings, tool_by};
 ghost use Rattle.rules.specs.Stores.{value_range, means, tools};
 ghost use Rattle.rules.specs.Changes.{write};
 ghost use Rattle.rules.specs.Passed.{ToolNumbers};
+ghost use Rattle.rules.specs.Refusals.{first};
+ghost use Rattle.rules.specs.Tool.{tool_at};
 ghost use Rattle.area.specs.Renewed.{renewed_all};
 ghost use Rattle.area.specs.Called.{answered_by};
 ghost use Rattle.measuring.specs.Reply.{tool, measured_as, measured_on, results_left};
+ghost use Rattle.measuring.specs.ReplyLaws.{arguments_of};
 
 use area::{AREA, MEANS, TOOLS};
 use floats::Raw;
@@ -24,7 +27,7 @@ use record_refusals::allowed;
 use result_numbers::DoneTool;
 use results::put_numbers;
 use tool_offset::find;
-use tool_refusals::passed_tool;
+use tool_refusals::{PassedTool, passed_tool};
 use wears::wears_after;
 
 // Writes the mean value and the wears that a measurement leaves.
@@ -37,7 +40,35 @@ fn put_tool(area: &mut [i32; AREA], a: ToolMeasurement<i64>, mean: i64, w: Wear)
     put_record(area, TOOLS, a.tool, &[w.radius, w.length]);
 }
 
-// Measures on an area of the right length; the 42 numbers of a measurement that is done are written to the results where they have room for them.
+// Measures by arguments that passed their tests, whatever raws they came from; the 42 numbers of a measurement that is done are written to the results where they
+// have room for them.
+fn measure_passed(
+    area: &mut [i32; AREA],
+    p: PassedTool,
+    results: &mut [i32],
+) -> Result<Evaluation, Refusal>
+    ensures { (t : ToolReadings) → p.given ≡ tool_at t → first (arguments_of (tool t)) ≡ 0
+        → measured_as (answered_by result area.new) (results_left result results.new) ≡ measured_on area.old (tool t) results.old 0 }
+{
+    let a = p.given;
+    let r = tool_records(area, a);
+    let f = find(r, p);
+    allowed(tests_of(p, f))?;
+    put_tool(
+        area,
+        a,
+        f.found.decision.mean,
+        wears_after(r.wear, p.probed, f.found.wear),
+    );
+    let done = DoneTool {
+        passed: p,
+        found: f,
+    };
+    put_numbers(done, results);
+    Ok(f.evaluated(a))
+}
+
+// Measures on an area of the right length.
 fn measure<T: Raw>(
     area: &mut [i32; AREA],
     a: ToolMeasurement<T>,
@@ -47,22 +78,7 @@ fn measure<T: Raw>(
         ≡ measured_on area.old (tool (tool_by T.reading a)) results.old 0 }
 {
     let p = passed_tool(a)?;
-    let a = p.given;
-    let r = tool_records(area, a);
-    let f = find(r, p);
-    allowed(tests_of(p, f))?;
-    put_tool(
-        area,
-        a,
-        f.found.decision.mean,
-        wears_after(r.wear, p.probed(), f.found.wear),
-    );
-    let done = DoneTool {
-        passed: p,
-        found: f,
-    };
-    put_numbers(done, results);
-    Ok(f.evaluated(a))
+    measure_passed(area, p, results)
 }
 
 // Measures; the 42 numbers are written to the front of the results where they have room for them.

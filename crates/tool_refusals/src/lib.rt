@@ -13,32 +13,19 @@ use floats::Raw;
 use kind_tests::Probed;
 use kinds::tool_kind;
 use package::arguments::ToolMeasurement;
-use package::found::Kind;
 use package::limits::{TOOL_COUNT, VALUE_COUNT, WEIGHT_LIMIT};
 use package::refusals::Refusal;
 use signed::in_range;
 use tolerance::limits_ok;
 
-// What a measurement with tool offset is given, tested, and its kind.
+// What a measurement with tool offset is given, tested, and what it probes.
 #[derive(Clone, Copy)]
 pub struct PassedTool {
-    pub kind: Kind,
+    pub probed: Probed,
     pub given: ToolMeasurement<i64>,
-    pub ghost named: { kind ≡ tool_kind_of given },
+    pub ghost named: { probed.kind ≡ tool_kind_of given },
+    pub ghost probing: { (probed.probing ≡ given.probing) × (probed.raws ≡ given.raws) },
     pub ghost passed: { ToolArgumentsPassed given },
-}
-
-impl PassedTool {
-    // What is probed.
-    pub fn probed(self) -> Probed
-        ensures { (result.kind ≡ self.kind) × (result.probing ≡ self.given.probing) × (result.raws ≡ self.given.raws) }
-    {
-        Probed {
-            kind: self.kind,
-            probing: self.given.probing,
-            raws: self.given.raws,
-        }
-    }
 }
 
 // Whether the tool and the values that a measurement names are numbers of their stores; number 0 names no value.
@@ -66,5 +53,5 @@ pub fn passed_tool<T: Raw>(a: ToolMeasurement<T>) -> Result<PassedTool, Refusal>
         return Err(Refusal::WrongLimits);
     }
     let given = a.with_raws(probed.raws);
-    Ok(PassedTool { kind, given })
+    Ok(PassedTool { probed, given })
 }

@@ -16,7 +16,7 @@ fn factor_of(p: Probed) -> i64
     ensures value { result ≡ factor p.kind p.probing.direction }
     ensures size { nat_abs result ≤ 2 }
 {
-    match p.surfaces() {
+    match p.surfaces {
         Surfaces::Plane(touch) => 2 * sign_in(touch.way.direction),
         Surfaces::Pair(_) | Surfaces::Pairs(_) => { if p.kind.inside { 1 } else { -1 } }
     }
@@ -26,7 +26,7 @@ fn factor_of(p: Probed) -> i64
 fn on_length(p: Probed) -> bool
     ensures { result ≡ on_length p.kind p.probing.axis }
 {
-    match p.surfaces() {
+    match p.surfaces {
         Surfaces::Plane(touch) => touch.way.axis == Axis::Third,
         Surfaces::Pair(_) | Surfaces::Pairs(_) => false,
     }

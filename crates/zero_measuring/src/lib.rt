@@ -2,13 +2,16 @@
 #![tactic(auto)]
 
 ghost use Rattle.std.specs.Prelude.{◌≡◌, [], ◌∷◌};
-ghost use Rattle.package.specs.Given.{zero_by};
+ghost use Rattle.package.specs.Given.{ZeroReadings, zero_by};
 ghost use Rattle.rules.specs.Stores.{offsets};
 ghost use Rattle.rules.specs.Changes.{write};
 ghost use Rattle.rules.specs.Passed.{ZeroNumbers};
+ghost use Rattle.rules.specs.Refusals.{first};
+ghost use Rattle.rules.specs.Zero.{zero_at};
 ghost use Rattle.area.specs.Renewed.{renewed_all};
 ghost use Rattle.area.specs.Called.{answered_by};
 ghost use Rattle.measuring.specs.Reply.{zero, measured_as, measured_on, results_left};
+ghost use Rattle.measuring.specs.ReplyLaws.{arguments_of};
 
 use area::{AREA, OFFSETS};
 use evaluation::evaluated;
@@ -24,7 +27,7 @@ use record_refusals::allowed;
 use result_numbers::DoneZero;
 use results::put_numbers;
 use zero_offset::find;
-use zero_refusals::passed_zero;
+use zero_refusals::{PassedZero, passed_zero};
 
 // Writes the zero offset that a measurement leaves.
 fn put_zero(area: &mut [i32; AREA], a: ZeroMeasurement<i64>, o: Offset)
@@ -34,16 +37,16 @@ fn put_zero(area: &mut [i32; AREA], a: ZeroMeasurement<i64>, o: Offset)
     put_record(area, OFFSETS, a.offset, &o.axes);
 }
 
-// Measures on an area of the right length; the 42 numbers of a measurement that is done are written to the results where they have room for them.
-fn measure<T: Raw>(
+// Measures by arguments that passed their tests, whatever raws they came from; the 42 numbers of a measurement that is done are written to the results where they
+// have room for them.
+fn measure_passed(
     area: &mut [i32; AREA],
-    a: ZeroMeasurement<T>,
+    p: PassedZero,
     results: &mut [i32],
 ) -> Result<Evaluation, Refusal>
-    ensures { measured_as (answered_by result area.new) (results_left result results.new)
-        ≡ measured_on area.old (zero (zero_by T.reading a)) results.old 0 }
+    ensures { (t : ZeroReadings) → p.given ≡ zero_at t → first (arguments_of (zero t)) ≡ 0
+        → measured_as (answered_by result area.new) (results_left result results.new) ≡ measured_on area.old (zero t) results.old 0 }
 {
-    let p = passed_zero(a)?;
     let a = p.given;
     let f = find(zero_records(area, a), p);
     allowed(f.tests())?;
@@ -54,6 +57,19 @@ fn measure<T: Raw>(
     };
     put_numbers(done, results);
     Ok(evaluated(f.measured))
+}
+
+// Measures on an area of the right length.
+fn measure<T: Raw>(
+    area: &mut [i32; AREA],
+    a: ZeroMeasurement<T>,
+    results: &mut [i32],
+) -> Result<Evaluation, Refusal>
+    ensures { measured_as (answered_by result area.new) (results_left result results.new)
+        ≡ measured_on area.old (zero (zero_by T.reading a)) results.old 0 }
+{
+    let p = passed_zero(a)?;
+    measure_passed(area, p, results)
 }
 
 // Measures; the 42 numbers are written to the front of the results where they have room for them.

@@ -19,26 +19,14 @@ use package::limits::{OFFSET_COUNT, TOLERANCE_LIMIT};
 use package::refusals::Refusal;
 use signed::in_range;
 
-// What a measurement with zero offset is given, tested, and its kind.
+// What a measurement with zero offset is given, tested, and what it probes.
 #[derive(Clone, Copy)]
 pub struct PassedZero {
-    pub kind: Kind,
+    pub probed: Probed,
     pub given: ZeroMeasurement<i64>,
-    pub ghost named: { kind ≡ zero_kind_of given },
+    pub ghost named: { probed.kind ≡ zero_kind_of given },
+    pub ghost probing: { (probed.probing ≡ given.probing) × (probed.raws ≡ given.raws) },
     pub ghost passed: { ZeroArgumentsPassed given },
-}
-
-impl PassedZero {
-    // What is probed.
-    pub fn probed(self) -> Probed
-        ensures { (result.kind ≡ self.kind) × (result.probing ≡ self.given.probing) × (result.raws ≡ self.given.raws) }
-    {
-        Probed {
-            kind: self.kind,
-            probing: self.given.probing,
-            raws: self.given.raws,
-        }
-    }
 }
 
 // The kind of a number with zero offset.
@@ -66,5 +54,5 @@ pub fn passed_zero<T: Raw>(a: ZeroMeasurement<T>) -> Result<PassedZero, Refusal>
         return Err(Refusal::WrongLimits);
     }
     let given = a.with_raws(probed.raws);
-    Ok(PassedZero { kind, given })
+    Ok(PassedZero { probed, given })
 }

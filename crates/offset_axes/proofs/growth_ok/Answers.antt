@@ -26,4 +26,4 @@ pub returns : goal.returns
 returns c =
     let tsa : to_z w64 (of_z w64 c.args.z.given.tsa) ≡ c.args.z.given.tsa = search rules in
     let found = c.magnitude.ensures ∙ ap size (read c.growth_of.result c.growth_of.type_inv ∙ c.growth_of.ensures.0) in
-    rw (read c.magnitude.result c.magnitude.type_inv, tsa, to_z-of_z (double_fits c.args.z), found, c.probed.ensures.0, c.probed.ensures.1)
+    rw (read c.magnitude.result c.magnitude.type_inv, tsa, to_z-of_z (double_fits c.args.z), found, c.args.z.probing.0)

@@ -10,39 +10,39 @@ use Rattle.sizes.proofs.sizes_in.Goals as goal
 pub surface_of-requires : goal.surface_of-requires
 surface_of-requires c =
     let p = c.args.p in
-    let t = c.in-Plane.ensures in
+    let t = rw c.in-Plane.is at p.touched in
     subst (λ t. position_range (raw_at p.raws t) ≡ true) (sym t.1) (plane_raw p.kind p.probing p.raws p.positions t.0)
 
 pub pair_of-requires : goal.pair_of-requires
-pair_of-requires c = let p = c.args.p in one_positioned p.kind p.probing p.raws p.positions (across c.in-Pair.across) c.in-Pair.ensures.1
+pair_of-requires c = let p = c.args.p in one_positioned p.kind p.probing p.raws p.positions (across c.in-Pair.across) (rw c.in-Pair.is at p.touched).1
 
 pub pair_of-abscissa-requires : goal.pair_of-abscissa-requires
 pair_of-abscissa-requires c =
     let p = c.args.p in
     let both = c.in-Pairs.both in
-    (both_positioned p.kind p.probing p.raws p.positions (across both.abscissa) (across both.ordinate) c.in-Pairs.ensures.1).0
+    (both_positioned p.kind p.probing p.raws p.positions (across both.abscissa) (across both.ordinate) (rw c.in-Pairs.is at p.touched).1).0
 
 pub pair_of-requires-in-Pairs : goal.pair_of-requires-in-Pairs
 pair_of-requires-in-Pairs c =
     let p = c.args.p in
     let both = c.in-Pairs.both in
-    (both_positioned p.kind p.probing p.raws p.positions (across both.abscissa) (across both.ordinate) c.in-Pairs.ensures.1).1
+    (both_positioned p.kind p.probing p.raws p.positions (across both.abscissa) (across both.ordinate) (rw c.in-Pairs.is at p.touched).1).1
 
 pub returns-in-Plane : goal.returns-in-Plane
 returns-in-Plane c =
     let p = c.args.p in
-    let is = of_plane c.args.x p.kind p.probing p.raws c.in-Plane.ensures.0 in
+    let is = of_plane c.args.x p.kind p.probing p.raws (rw c.in-Plane.is at p.touched).0 in
     search rules
 
 pub returns-in-Pair : goal.returns-in-Pair
 returns-in-Pair c =
     let p = c.args.p in
-    let is = of_single c.args.x p.kind p.probing p.raws (across c.in-Pair.across) c.in-Pair.ensures.0 c.in-Pair.ensures.1 in
+    let is = of_single c.args.x p.kind p.probing p.raws (across c.in-Pair.across) (rw c.in-Pair.is at p.touched).0 (rw c.in-Pair.is at p.touched).1 in
     search rules
 
 pub returns-in-Pairs : goal.returns-in-Pairs
 returns-in-Pairs c =
     let p = c.args.p in
     let both = c.in-Pairs.both in
-    let is = of_double c.args.x p.kind p.probing p.raws (across both.abscissa) (across both.ordinate) c.in-Pairs.ensures.0 c.in-Pairs.ensures.1 in
+    let is = of_double c.args.x p.kind p.probing p.raws (across both.abscissa) (across both.ordinate) (rw c.in-Pairs.is at p.touched).0 (rw c.in-Pairs.is at p.touched).1 in
     search rules

@@ -19,18 +19,18 @@ pub returns : goal.returns
 returns c =
     let r = c.args.r in
     let a = c.args.p.given in
-    let is = c.probed-probed.ensures in
+    let p = c.args.p in
     let d = c.difference_of-deviation in
     let dc = c.decision_of-decision in
     let f : mag r.ev < 32768 = search rules in
     let ev = (widened w16 w64 r.ev tt f).value in
     let mean : to_z w16 (of_z w16 r.mean) ≡ r.mean = search rules in
     let correction : to_z w64 (of_z w64 dc.result.correction) ≡ dc.result.correction = search rules in
-    let sizes = rw (is.0, is.1, is.2) at c.measured.ensures in
-    let calibrated = rw (is.0, is.1) at c.calibrated.ensures in
+    let sizes = rw (p.probing.0, p.probing.1) at c.measured.ensures in
+    let calibrated = rw p.probing.0 at c.calibrated.ensures in
     let deviation = d.ensures.0 ∙ ap (difference c.measured.result.sizes.held) ev in
     let decision = dc.ensures.0 ∙ ap₂ (λ m n. decided a.limits (named a) m n (weight a)) mean (read d.result d.type_inv) in
-    let wear = (rw (is.0, is.1) at c.wear_after.ensures)
-    ∙ ap (λ (n : ℤ). wear_on (on_length c.args.p.kind a.probing.axis) r.wear +ℤ factor c.args.p.kind a.probing.direction *ℤ n) correction in
+    let wear = (rw p.probing.0 at c.wear_after.ensures)
+    ∙ ap (λ (n : ℤ). wear_on (on_length p.probed.kind a.probing.axis) r.wear +ℤ factor p.probed.kind a.probing.direction *ℤ n) correction in
     rw (ev, read d.result d.type_inv, read c.wear_after.result c.wear_after.type_inv)
-    (found_is r a c.args.p.named calibrated sizes deviation decision wear)
+    (found_is r a p.named calibrated sizes deviation decision wear)

@@ -1,5 +1,5 @@
 -- Each test is that of the rules on the arguments, whose numbers are read back as they are; the tests before it passed.
-use Rattle.std.specs.Prelude.{◌≡◌}
+use Rattle.std.specs.Prelude.{◌≡◌, refl}
 use Rattle.std.proofs.Common.{sym, ap, ◌∙◌, rules}
 use Rattle.signed.specs.CodeLaws.{read}
 use Rattle.package.specs.Given.{tool_by, tool_with}
@@ -60,5 +60,10 @@ invariant_of-result g c =
     let w = sym (rw (read a.k (search rules)) at c.in_range.ensures) in
     let r = none_refused (tool_by g.T.Raw.reading a) k.0 (s ∙ c.if-not-stores_named.false) p (w ∙ c.if-not-in_range.false)
     (sym c.limits_ok.ensures ∙ c.if-not-limits_ok.false) in
-    let e = c.with_raws-given.ensures ∙ ap (tool_with a) (rw k.1 at c.in_ok-probed.ensures.given.2) in
-    rw e (record { named = k.1; passed = arguments_passed (tool_by g.T.Raw.reading a) r })
+    let given = c.in_ok-probed.ensures.given in
+    let e = c.with_raws-given.ensures in
+    record {
+      named = rw e (given.0 ∙ k.1);
+      probing = rw e (given.1, refl);
+      passed = rw (e ∙ ap (tool_with a) (rw k.1 at given.2)) (arguments_passed (tool_by g.T.Raw.reading a) r);
+    }

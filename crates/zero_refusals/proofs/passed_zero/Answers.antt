@@ -1,5 +1,5 @@
 -- The tests stand in the order of the rules.
-use Rattle.std.proofs.Common.{sym, ◌∙◌, rules}
+use Rattle.std.proofs.Common.{refl, sym, ◌∙◌, rules}
 use Rattle.signed.specs.CodeLaws.{read}
 use Rattle.package.specs.Given.{zero_by, zero_with}
 use Rattle.kinds.specs.KindLaws.{known_is, known_not}
@@ -47,7 +47,8 @@ invariant_of-result g c =
     let numbers = rw (given.0, k.1, given.1) at p.numbers in
     let positions = rw (given.0, k.1, given.1) at p.positions in
     record {
-      named = rw c.with_raws-given.ensures k.1;
+      named = rw c.with_raws-given.ensures (given.0 ∙ k.1);
+      probing = rw c.with_raws-given.ensures (given.1, refl);
       passed = rw c.with_raws-given.ensures (all_passed (zero_with a p.raws) k.0 numbers positions f t);
     }
 

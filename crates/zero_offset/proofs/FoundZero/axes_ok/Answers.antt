@@ -7,19 +7,19 @@ use Rattle.zero_offset.proofs.FoundZero.axes_ok.Goals as goal
 pub returns-in-Plane : goal.returns-in-Plane
 returns-in-Plane c =
     let p = c.args.self.passed in
-    let e = c.probed-p.ensures in
-    (rw (e.0, e.1) at c.left_ok.ensures) ∙ sym (corrected p.kind p.given.probing (stays c.args.self) (Flat c.in-Plane.touch) (rw (e.0, e.1) at c.in-Plane.ensures)) ∙ range_is c.args.self
+    let e = p.probing.0 in
+    (rw e at c.left_ok.ensures) ∙ sym (corrected p.probed.kind p.given.probing (stays c.args.self) (Flat c.in-Plane.touch) (rw (e, c.in-Plane.is) at p.probed.touched)) ∙ range_is c.args.self
 
 pub returns-in-Pair : goal.returns-in-Pair
 returns-in-Pair c =
     let p = c.args.self.passed in
-    let e = c.probed-p.ensures in
-    (rw (e.0, e.1) at c.left_ok-in-Pair.ensures) ∙ sym (corrected p.kind p.given.probing (stays c.args.self) (Pair c.in-Pair.pair) (rw (e.0, e.1) at c.in-Pair.ensures)) ∙ range_is c.args.self
+    let e = p.probing.0 in
+    (rw e at c.left_ok-in-Pair.ensures) ∙ sym (corrected p.probed.kind p.given.probing (stays c.args.self) (Pair c.in-Pair.pair) (rw (e, c.in-Pair.is) at p.probed.touched)) ∙ range_is c.args.self
 
 pub returns-in-Pairs : goal.returns-in-Pairs
 returns-in-Pairs c =
     let p = c.args.self.passed in
-    let e = c.probed-p.ensures in
-    ap₂ ◌&&◌ (rw (e.0, e.1) at c.left_ok-in-Pairs.ensures) (rw (e.0, e.1) at c.left_ok-in-Pairs-2.ensures)
-    ∙ sym (corrected p.kind p.given.probing (stays c.args.self) (Pairs c.in-Pairs.field-0) (rw (e.0, e.1) at c.in-Pairs.ensures))
+    let e = p.probing.0 in
+    ap₂ ◌&&◌ (rw e at c.left_ok-in-Pairs.ensures) (rw e at c.left_ok-in-Pairs-2.ensures)
+    ∙ sym (corrected p.probed.kind p.given.probing (stays c.args.self) (Pairs c.in-Pairs.field-0) (rw (e, c.in-Pairs.is) at p.probed.touched))
     ∙ range_is c.args.self

@@ -13,7 +13,7 @@ module _ (c : After-axis_left) where
   told = record { sfits = c.stored-v.type_inv }
 
   is : c.axis_left.result ≡ axis_left c.args.self.records c.args.self.passed.given (axis_number c.args.axis)
-  is = (rw (c.probed.ensures.0, c.probed.ensures.1) at c.axis_left.ensures) ∙ ap₂ ◌+ℤ◌ (to_z-of_z told ∙ c.stored-v.ensures) (growth_is c.args.self (axis_number c.args.axis))
+  is = (rw c.args.self.passed.probing.0 at c.axis_left.ensures) ∙ ap₂ ◌+ℤ◌ (to_z-of_z told ∙ c.stored-v.ensures) (growth_is c.args.self (axis_number c.args.axis))
 
   narrow : SFits w32 c.axis_left.result
   narrow =

@@ -6,5 +6,5 @@ use Rattle.zero_offset.proofs.FoundZero.tests.Goals as goal
 pub returns : goal.returns
 returns c =
     let f = c.args.self in
-    let e = c.probed-probed.ensures in
-    tests_are f ((rw (e.0, e.1) at c.calibrated.ensures) ∙ calibrated_is f) ((rw (e.0, e.1) at c.wide.ensures) ∙ pairs_is f) c.growths_ok.ensures c.axes_ok.ensures
+    let e = f.passed.probing.0 in
+    tests_are f ((rw e at c.calibrated.ensures) ∙ calibrated_is f) ((rw e at c.wide.ensures) ∙ pairs_is f) c.growths_ok.ensures c.axes_ok.ensures
