@@ -35,6 +35,7 @@ pub struct Probed {
 
 impl Probed {
     // The arguments of a measurement of a kind, with the positions that its raws give.
+    #[inline(always)]
     pub fn tested<T: Raw>(kind: Kind, probing: Probing, raws: Raws<T>) -> Result<Probed, Refusal>
         ensures refusal { refusal_in result ≡ first (probing_rules kind probing (raws_by T.reading raws)) }
         ensures given { IfOk result (λ p. (p.kind ≡ kind) × (p.probing ≡ probing) × (p.raws ≡ raws_of kind probing (raws_by T.reading raws))) }
@@ -56,6 +57,7 @@ impl Probed {
 
 // What is touched, where the numbers that the kind uses are numbers of their stores.
 #[tactic(auto, unfolding(rules::specs::Sizes::numbers_ok))]
+#[inline(always)]
 fn numbered(k: Kind, a: Probing) -> Result<Surfaces, Refusal>
     ensures { NumbersIf k a result }
 {
@@ -66,6 +68,7 @@ fn numbered(k: Kind, a: Probing) -> Result<Surfaces, Refusal>
 }
 
 // Whether the used positions, set centres and setpoint are in range.
+#[inline(always)]
 fn used_ok(s: Surfaces, a: Probing, q: Raws<i64>) -> bool
     ensures { (k : Kind) → Touches k a s → result ≡ positions_ok k a q }
 {

@@ -42,6 +42,7 @@ pub enum Surfaces {
 }
 
 // The kind of a number with tool offset.
+#[inline(always)]
 pub fn tool_kind(n: i64) -> Result<Kind, Refusal>
     ensures { result ≡ known (tool_kind_number n) (tool_kind n) }
 {
@@ -67,6 +68,7 @@ fn directions(inside: bool) -> (Direction, Direction)
 }
 
 // A pair across an axis, by the numbers of its raws, low and high, and its set centre.
+#[inline(always)]
 fn span(inside: bool, axis: Axis, raws: (i64, i64), set: i64) -> Across
     ensures { across result ≡ span inside (axis_number axis) raws.0 raws.1 set }
 {
@@ -83,6 +85,7 @@ fn span(inside: bool, axis: Axis, raws: (i64, i64), set: i64) -> Across
 }
 
 // What a measurement touches. No axis and no direction but those that its kind uses is looked at.
+#[inline(always)]
 pub fn surfaces_of(k: Kind, a: Probing) -> Result<Surfaces, Refusal>
     ensures { TouchesIf k a result }
 {

@@ -42,6 +42,7 @@ fn put_tool(area: &mut [i32; AREA], a: ToolMeasurement<i64>, mean: i64, w: Wear)
 
 // Measures by arguments that passed their tests, whatever raws they came from; the 42 numbers of a measurement that is done are written to the results where they
 // have room for them.
+#[inline(always)]
 fn measure_passed(
     area: &mut [i32; AREA],
     p: PassedTool,
@@ -69,6 +70,7 @@ fn measure_passed(
 }
 
 // Measures on an area of the right length.
+#[inline(always)]
 fn measure<T: Raw>(
     area: &mut [i32; AREA],
     a: ToolMeasurement<T>,

@@ -37,6 +37,7 @@ fn stores_named(tool: i64, ev: i64, mv: i64) -> bool
 
 // The arguments of a measurement, with the positions that its raws give, or the first refusal that they give.
 #[tactic(auto, unfolding(rules::specs::Tool::tool_arguments_with))]
+#[inline(always)]
 pub fn passed_tool<T: Raw>(a: ToolMeasurement<T>) -> Result<PassedTool, Refusal>
     ensures refusal { refusal_in result ≡ first (tool_arguments_with (good_tool (tool_by T.reading a)) (tool_at (tool_by T.reading a))) }
     ensures given { IfOk result (λ p. p.given ≡ tool_at (tool_by T.reading a)) }

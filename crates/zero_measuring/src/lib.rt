@@ -60,6 +60,7 @@ fn measure_passed(
 }
 
 // Measures on an area of the right length.
+#[inline(always)]
 fn measure<T: Raw>(
     area: &mut [i32; AREA],
     a: ZeroMeasurement<T>,

@@ -30,6 +30,7 @@ pub struct PassedZero {
 }
 
 // The kind of a number with zero offset.
+#[inline(always)]
 fn zero_kind(n: i64) -> Result<Kind, Refusal>
     ensures { result ≡ known (zero_kind_number n) (zero_kind n) }
 {
@@ -41,6 +42,7 @@ fn zero_kind(n: i64) -> Result<Kind, Refusal>
 
 // The arguments tested, with the positions that the raws give.
 #[tactic(auto, unfolding(rules::specs::Zero::zero_arguments_with))]
+#[inline(always)]
 pub fn passed_zero<T: Raw>(a: ZeroMeasurement<T>) -> Result<PassedZero, Refusal>
     ensures refusal { let t = zero_by T.reading a in refusal_in result ≡ first (zero_arguments_with (good_zero t) (zero_at t)) }
     ensures given { IfOk result (λ z. z.given ≡ zero_at (zero_by T.reading a)) }
