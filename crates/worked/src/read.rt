@@ -67,13 +67,13 @@ pub fn numbers<T: FromStr<Err = ParseIntError> + Drop>(
     alloc: Global,
     fields: &str,
 ) -> Result<Vec<T>, RowError> {
-    let mut numbers = Vec::new(alloc);
-    if !fields.is_empty() {
-        for field in fields.split(',') {
-            numbers.push(number(field)?).map_err(AllocError::from)?;
-        }
+    if fields.is_empty() {
+        return Ok(Vec::new(alloc));
     }
-    Ok(numbers)
+    fields
+        .split(',')
+        .map(|field| number::<T>(field))
+        .try_collect(alloc)
 }
 
 // Not by parse alone, which takes a plus sign: a number of a row has none.
