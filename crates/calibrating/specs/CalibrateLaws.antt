@@ -16,13 +16,13 @@ use Rattle.rules.specs.Stores.{probes, at}
 use Rattle.rules.specs.Probes.{place_of}
 use Rattle.rules.specs.Calibration.{calibration_arguments, calibration_arguments_with, calibration_at, good_calibration, Calibrated, calibrated_with, calibrated_probe}
 use Rattle.rules.specs.Calls.{calibrate, calibrate_reading, rules}
-use Rattle.calibration.specs.CalibratedLaws.{arguments, place_passed, direction_left, with_direction, probe_done}
+use Rattle.calibration.specs.CalibratedLaws.{arguments, place_passed, direction_left, with_direction, probe_done, status_done}
 use Rattle.layout.specs.Layout.{end, record_of, record_put}
 use Rattle.layout.specs.LayoutLaws.{record_number, number_again, number_back}
 use Rattle.area.specs.Table.{area_length, section_of, status_from, probe_from, record_from, held}
 use Rattle.area.specs.RecordLaws.{triggers_are, section_in, at_held}
 use Rattle.area.specs.Called.{unmeasured, called}
-use Rattle.area.specs.CalledLaws.{call_refused_by, call_done, same_called}
+use Rattle.area.specs.CalledLaws.{call_refused, call_refused_by, call_done, same_called}
 
 -- the 7 numbers of a record with a trigger and a status replaced
 with_two : (zs : List ℤ) (at : ℕ) (t s : ℤ) → length zs ≡ 7 → at < 6 → set (set zs at t) 6 s ≡ set (take 6 zs) at t ++ (s ∷ [])
@@ -48,8 +48,14 @@ pub given_passed : (area : List ℤ) (t : CalibrationReading) → 0 ≡ first (c
     → called area (calibrate (calibration_at t)) ≡ called area (calibrate_reading t)
 given_passed area t e = sym (same_called area (calibration_whole t (good_of t e)))
 
--- ---- what passed
+-- ---- a whole position
 module _ (area : List ℤ) (whole : length area ≡ area_length) (a : Calibration) where
+  pub arguments_refused : (n : ℕ) → n ≡ first (calibration_arguments a) → (n ≡ 0 → ⊥) → unmeasured n area ≡ called area (calibrate a)
+  arguments_refused n e z =
+      let some : n ≡ suc (n - 1) = omega (arith, z) in
+      call_refused area (calibrate a) whole (some ∙ sym (first_sooner (calibration_arguments a) _ (n - 1) (sym e ∙ some))) z
+
+  -- ---- what passed
   module _ (passed : first (calibration_arguments a) ≡ 0) (j : ℕ) (place_is : place_of a.axis a.direction ≡ suc j) where
     abbrev numbers : List ℤ
     numbers = record_of (section_of probes) area a.probe
@@ -80,9 +86,16 @@ module _ (area : List ℤ) (whole : length area ≡ area_length) (a : Calibratio
     unfolding calibrated_with
     refusal_is = refl
 
-    pub found_refused : (e : Refusal) → number e ≡ found.refusal → {A : Type 0} {r : Result A Refusal} → r ≡ Err e
+    pub status_small : found.refusal ≡ 0 → found.status < 64
+    status_small e = rw found_is (status_done (at (held area) probes a.probe) a passed (ap (λ (c : Calibrated). c.refusal) (sym found_is) ∙ e))
+
+    pub found_refused : (found.refusal ≡ 0 → ⊥) → unmeasured found.refusal area ≡ called area (calibrate a)
+    found_refused z = call_refused area (calibrate a) whole (ap (λ (c : Calibrated). c.refusal) found_is ∙ refusal_is) z
+
+    -- the same of a call that answers its refusal
+    pub refused_by_found : (e : Refusal) → number e ≡ found.refusal → {A : Type 0} {r : Result A Refusal} → r ≡ Err e
         → unmeasured (refusal_in r) area ≡ called area (calibrate a)
-    found_refused e n q = call_refused_by area (calibrate a) whole q (n ∙ ap (λ (c : Calibrated). c.refusal) found_is ∙ refusal_is) refl
+    refused_by_found e n q = rw (q, n) (found_refused (λ z. number_some e (n ∙ z)))
 
     -- what it writes
     by_found : found.refusal ≡ 0 → {once after : List ℤ} → once ≡ record_put (section_of probes) area a.probe (set numbers j found.trigger)

@@ -1,7 +1,7 @@
 // The calibration of one direction of a probe. Document 01, 'Calibration'.
 #![tactic(auto)]
 
-ghost use Rattle.std.specs.Prelude.{◌≡◌, ◌≤◌, ◌%◌};
+ghost use Rattle.std.specs.Prelude.{◌≡◌, ◌≤◌, ◌<◌, ◌%◌, IfOk};
 ghost use Rattle.rules.specs.Probes.{mark};
 ghost use Rattle.rules.specs.Calibration.{new_trigger, calibrated_with};
 ghost use Rattle.calibration.specs.Left.{left_by};
@@ -41,7 +41,8 @@ pub fn calibrate_direction(
     status: u8,
     p: PassedCalibration,
 ) -> Result<Calibrated, Refusal>
-    ensures { left_by trigger status result ≡ calibrated_with trigger status p.given }
+    ensures left { left_by trigger status result ≡ calibrated_with trigger status p.given }
+    ensures six_bits { IfOk result (λ c. c.status < 64) }
 {
     let t = new_trigger(p);
     let d = magnitude(t - read_trigger(trigger));

@@ -9,7 +9,7 @@ use Rattle.rules.specs.Calibration.{Calibrated, calibrated_with}
 use Rattle.calibration.specs.CalibratedLaws.{arguments}
 use Rattle.layout.specs.Layout.{named}
 use Rattle.area.specs.Table.{area_length, section_of, status_from}
-use Rattle.calibrating.specs.CalibrateLaws.{found, found_refused, found_done}
+use Rattle.calibrating.specs.CalibrateLaws.{found, refused_by_found, found_done}
 use Rattle.calibrating.proofs.calibrate_passed.Goals as goal
 use Rattle.calibrating.proofs.calibrate_passed.Goals.{After-place_on-at, After-calibrate_direction}
 
@@ -61,8 +61,8 @@ returns-in_err-c c =
     let s = (goal.at.returns-in_err-c c).After-calibrate_direction in
     let p = placed s in
     let r = err_from_is_err_and c.from_residual.result c.from_residual.ensures.1 in
-    found_refused c.args.area.now (whole p) c.args.p.given c.args.p.passed (c.place_on-at.result - 1) (place_is p) c.in_err-c.field-0.0
-    (ap (λ (x : Calibrated). x.refusal) (c.in_err-c.ensures ∙ found_is s))
+    refused_by_found c.args.area.now (whole p) c.args.p.given c.args.p.passed (c.place_on-at.result - 1) (place_is p) c.in_err-c.field-0.0
+    (ap (λ (x : Calibrated). x.refusal) (c.in_err-c.ensures.left ∙ found_is s))
     (r.1 ∙ ap Err r.2)
 
 pub returns : goal.returns
@@ -71,6 +71,6 @@ returns c =
     let p = placed s in
     let trigger : to_z w32 (of_z w32 c.in_ok-c.c.trigger) ≡ c.in_ok-c.c.trigger = search rules in
     let status : to_z w32 (of_z w32 c.from.result) ≡ c.from.result = search rules in
-    found_done c.args.area.now (whole p) c.args.p.given c.args.p.passed (c.place_on-at.result - 1) (place_is p) (c.in_ok-c.ensures ∙ found_is s) refl
+    found_done c.args.area.now (whole p) c.args.p.given c.args.p.passed (c.place_on-at.result - 1) (place_is p) (c.in_ok-c.ensures.left ∙ found_is s) refl
     (rw (probe p, trigger) at c.put_number.ensures)
     (rw (probe p, status, c.from.ensures) at c.put_number-2.ensures)

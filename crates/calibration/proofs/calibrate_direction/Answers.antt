@@ -1,5 +1,5 @@
 -- Sizes bound the difference; TSA, then the range refuses; where both pass, the place is marked and TZL decides whether the new trigger is stored.
-use Rattle.std.specs.Prelude.{◌≡◌, refl, Bool, true, false, not, ℕ, ◌%◌, ◌≤◌, ℤ, pos, nat_abs, ◌-ℤ◌}
+use Rattle.std.specs.Prelude.{◌≡◌, refl, Bool, true, false, not, ℕ, ◌%◌, ◌≤◌, ◌<◌, ℤ, pos, nat_abs, ◌-ℤ◌}
 use Rattle.std.proofs.Common.{sym, ap, ap₂, ◌∙◌, arith, rules, w32, w64, to_z, of_z, to_z-of_z}
 use Rattle.std.specs.Int.Signed.{le_z, lt_z}
 use Rattle.signed.specs.Ranges.{minus, size}
@@ -10,8 +10,8 @@ use Rattle.package.specs.Given.{Calibration}
 use Rattle.rules.specs.Refusals.{first}
 use Rattle.rules.specs.Stores.{trigger_range}
 use Rattle.rules.specs.Probes.{mark, place_of, trigger_read}
-use Rattle.rules.specs.Calibration.{new_trigger, change, calibration_records, Calibrated, status_left}
-use Rattle.calibration.specs.CalibratedLaws.{arguments, with_refused, with_done}
+use Rattle.rules.specs.Calibration.{new_trigger, change, calibration_arguments, calibration_records, Calibrated, calibrated_with, status_left}
+use Rattle.calibration.specs.CalibratedLaws.{arguments, with_refused, with_done, with_small}
 use Rattle.calibration.proofs.Laws.{trigger_size}
 use Rattle.calibration.proofs.calibrate_direction.Goals as goal
 use Rattle.calibration.proofs.calibrate_direction.Goals.{After-magnitude-d, After-mark_place-status, After-read_trigger, Else-not-in_range}
@@ -71,6 +71,12 @@ marked c =
     let place = c.place_on.ensures.value ∙ ap₂ place_of c.args.p.axis c.args.p.direction in
     c.mark_place-status.ensures ∙ ap (mark (c.args.status % 64)) place
 
+-- a status that is left where it is done has six bits
+six_bits_left : (a : Calibration) → first (calibration_arguments a) ≡ 0 → (stored : ℤ) (before : ℕ) {trigger : ℤ} {status : ℕ}
+    → left_with trigger status ≡ calibrated_with stored before a → status < 64
+six_bits_left a passed stored before e =
+    rw (ap (λ (x : Calibrated). x.status) e) (with_small a passed stored before (ap (λ (x : Calibrated). x.refusal) (sym e)))
+
 pub overflow_sub-t : goal.overflow_sub-t
 overflow_sub-t c = search (runs (goal.at.overflow_sub-t c).After-read_trigger).asks
 
@@ -85,7 +91,7 @@ returns-then-p-d c =
     let a = c.args.p.given in
     let z = c.args.trigger in
     let below = at_tsa (goal.at.returns-then-p-d c).After-magnitude-d c.if-p-d.true in
-    sym (with_refused a c.args.p.passed z c.args.status 6 (rw (near a z true below)))
+    record { left = sym (with_refused a c.args.p.passed z c.args.status 6 (rw (near a z true below))); six_bits = tt }
 
 pub returns-then-not-in_range : goal.returns-then-not-in_range
 unfolding calibration_records
@@ -95,7 +101,7 @@ returns-then-not-in_range c =
     let below = at_tsa (goal.at.returns-then-not-in_range c).After-magnitude-d c.if-p-d.false in
     let t = read c.new_trigger-t.result c.new_trigger-t.type_inv ∙ c.new_trigger-t.ensures in
     let outside : trigger_range (new_trigger a) ≡ false = sym (c.in_range.ensures ∙ ap trigger_range t) ∙ c.if-not-in_range.true in
-    sym (with_refused a c.args.p.passed z c.args.status 8 (rw (near a z false below, outside)))
+    record { left = sym (with_refused a c.args.p.passed z c.args.status 8 (rw (near a z false below, outside))); six_bits = tt }
 
 pub overflow_cast-trigger : goal.overflow_cast-trigger
 overflow_cast-trigger c = (kept (goal.at.overflow_cast-trigger c).Else-not-in_range).fits
@@ -105,12 +111,16 @@ returns-then-p-d-2 c =
     let p = goal.at.returns-then-p-d-2 c in
     let d = p.After-magnitude-d in
     let r = p.Else-not-in_range in
-    ap₂ left_with ((kept r).value ∙ c.new_trigger-t.ensures) (marked p.After-mark_place-status)
-    ∙ sym (with_done c.args.p.given c.args.p.passed c.args.trigger c.args.status true (passed r (at_tsa d c.if-p-d.false)) (at_tzl d c.if-p-d-2.true))
+    let a = c.args.p in
+    let e = ap₂ left_with ((kept r).value ∙ c.new_trigger-t.ensures) (marked p.After-mark_place-status)
+    ∙ sym (with_done a.given a.passed c.args.trigger c.args.status true (passed r (at_tsa d c.if-p-d.false)) (at_tzl d c.if-p-d-2.true)) in
+    record { left = e; six_bits = six_bits_left a.given a.passed c.args.trigger c.args.status e }
 
 pub returns-else-p-d-2 : goal.returns-else-p-d-2
 returns-else-p-d-2 c =
     let p = goal.at.returns-else-p-d-2 c in
     let d = p.After-magnitude-d in
-    ap₂ left_with (to_z-of_z c.ranges.trigger) (marked p.After-mark_place-status)
-    ∙ sym (with_done c.args.p.given c.args.p.passed c.args.trigger c.args.status false (passed p.Else-not-in_range (at_tsa d c.if-p-d.false)) (at_tzl d c.if-p-d-2.false))
+    let a = c.args.p in
+    let e = ap₂ left_with (to_z-of_z c.ranges.trigger) (marked p.After-mark_place-status)
+    ∙ sym (with_done a.given a.passed c.args.trigger c.args.status false (passed p.Else-not-in_range (at_tsa d c.if-p-d.false)) (at_tzl d c.if-p-d-2.false)) in
+    record { left = e; six_bits = six_bits_left a.given a.passed c.args.trigger c.args.status e }
