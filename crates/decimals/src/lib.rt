@@ -1,7 +1,7 @@
 // Numbers written into a lent buffer. Document 01, 'Job files'.
 #![tactic(auto)]
 
-ghost use Rattle.std.specs.Prelude.{◌≡◌, ◌∷◌, [], ◌+◌, ◌≤◌, length};
+ghost use Rattle.std.specs.Prelude.{◌≡◌, List, ◌∷◌, [], ℕ, ◌+◌, ◌≤◌, length};
 ghost use Rattle.lists.specs.Written.{written};
 ghost use Rattle.decimals.specs.Decimals.{decimal, signed_decimal};
 
@@ -17,36 +17,47 @@ pub fn put_byte(out: &mut [u8], at: usize, b: u8) -> usize
     at + 1
 }
 
-// How many digits a number has.
+// How many digits a number has. A loop of divisions would save a hundredth of a job's instructions, and is no plainer.
 fn digit_count(n: u32) -> usize
     ensures { result ≡ length (decimal n) }
 {
     n.max(1).ilog10() as usize + 1
 }
 
-// Writes a number from a place on, its last digit first; answers the place behind it. No call of a user.
-pub fn put_whole(out: &mut [u8], at: usize, n: u32) -> usize
-    requires { at + length (decimal n) ≤ length out.old }
-    ensures { (result ≡ at + length (decimal n)) × (out.new ≡ written out.old at (decimal n)) }
-{
-    let end = at + digit_count(n);
-    let mut m = n;
-    for k in (at + 1..end).rev() {
-        out[k] = NOUGHT + (m % 10) as u8;
-        m /= 10;
-    }
-    out[at] = NOUGHT + m as u8;
-    end
+// A number that is written in decimal digits.
+pub trait Decimal: Copy {
+    ghost text: { Self → List ℕ };
+
+    // Writes the number from a place on; answers the place behind it. No call of a user.
+    fn put(self, out: &mut [u8], at: usize) -> usize
+        requires { at + length (text self) ≤ length out.old }
+        ensures { (result ≡ at + length (text self)) × (out.new ≡ written out.old at (text self)) };
 }
 
-// The same of a number that may be below 0. No call of a user.
-pub fn put_number(out: &mut [u8], at: usize, z: i32) -> usize
-    requires { at + length (signed_decimal z) ≤ length out.old }
-    ensures { (result ≡ at + length (signed_decimal z)) × (out.new ≡ written out.old at (signed_decimal z)) }
-{
-    if z < 0 {
-        let k = put_byte(out, at, MINUS);
-        return put_whole(out, k, z.unsigned_abs());
+// Its last digit is written first.
+impl Decimal for u32 {
+    ghost text = { decimal };
+
+    fn put(self, out: &mut [u8], at: usize) -> usize {
+        let end = at + digit_count(self);
+        let mut m = self;
+        for k in (at + 1..end).rev() {
+            out[k] = NOUGHT + (m % 10) as u8;
+            m /= 10;
+        }
+        out[at] = NOUGHT + m as u8;
+        end
     }
-    put_whole(out, at, z.unsigned_abs())
+}
+
+impl Decimal for i32 {
+    ghost text = { signed_decimal };
+
+    fn put(self, out: &mut [u8], at: usize) -> usize {
+        if self < 0 {
+            let k = put_byte(out, at, MINUS);
+            return self.unsigned_abs().put(out, k);
+        }
+        self.unsigned_abs().put(out, at)
+    }
 }

@@ -13,8 +13,7 @@ const SMALL_A: u8 = b'a';
 // How many digits a float's bits have.
 const DIGITS: usize = 8;
 
-// What a digit spells, 16 where the byte is none, as its definition has it: in a byte, so that the eight digits of a number are taken at once. An Option is no
-// plainer: each of the eight would be matched, and the one test behind them stays.
+// What a digit spells, 16 where the byte is none. No to_digit, which takes capitals; no Option, since the eight digits are taken at once, before one test.
 fn digit_of(b: u8) -> u8
     ensures { (result ≡ digit_of b) × (result ≤ 16) }
 {

@@ -26,12 +26,15 @@ evaluation_in (Err r) = no_evaluation
 abbrev pub answer_in : Row → Answer
 answer_in r = row r.number (refusal_in r.answer) (evaluation_in r.answer)
 
--- a number and the byte behind it
+-- a number, by what is written of it, and the byte behind it
+abbrev pub field : {A : Type 0} → (A → List ℕ) → A → ℕ → List ℕ
+field text n byte = text n ++ (byte ∷ [])
+
 abbrev pub whole_field : ℕ → ℕ → List ℕ
-whole_field n byte = decimal n ++ (byte ∷ [])
+whole_field = field decimal
 
 abbrev pub signed_field : ℤ → ℕ → List ℕ
-signed_field z byte = signed_decimal z ++ (byte ∷ [])
+signed_field = field signed_decimal
 
 -- the last four numbers of an answer, and all six, with commas between them and a line feed behind
 abbrev pub evaluation_text : Evaluation → List ℕ

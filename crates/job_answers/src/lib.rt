@@ -3,9 +3,9 @@
 
 ghost use Rattle.std.specs.Prelude.{◌≡◌, ◌+◌, ◌≤◌, length};
 ghost use Rattle.lists.specs.Written.{written};
-ghost use Rattle.job_answers.specs.LineAnswers.{whole_field, signed_field, evaluation_text, row_text, answer_in};
+ghost use Rattle.job_answers.specs.LineAnswers.{field, evaluation_text, row_text, answer_in};
 
-use decimals::{put_byte, put_number, put_whole};
+use decimals::{Decimal, put_byte};
 use package::found::Evaluation;
 use package::refusals::{Refusal, refusal_in};
 use text::{COMMA, LINE_FEED};
@@ -18,19 +18,11 @@ pub struct Row {
 }
 
 // Writes a number and the byte behind it from a place on, and answers the next place.
-fn put_whole_field(out: &mut [u8], at: usize, n: u32, byte: u8) -> usize
-    requires { at + length (whole_field n byte) ≤ length out.old }
-    ensures { (result ≡ at + length (whole_field n byte)) × (out.new ≡ written out.old at (whole_field n byte)) }
+fn put_field<N: Decimal>(out: &mut [u8], at: usize, n: N, byte: u8) -> usize
+    requires { at + length (field N.text n byte) ≤ length out.old }
+    ensures { (result ≡ at + length (field N.text n byte)) × (out.new ≡ written out.old at (field N.text n byte)) }
 {
-    let k = put_whole(out, at, n);
-    put_byte(out, k, byte)
-}
-
-fn put_signed_field(out: &mut [u8], at: usize, z: i32, byte: u8) -> usize
-    requires { at + length (signed_field z byte) ≤ length out.old }
-    ensures { (result ≡ at + length (signed_field z byte)) × (out.new ≡ written out.old at (signed_field z byte)) }
-{
-    let k = put_number(out, at, z);
+    let k = n.put(out, at);
     put_byte(out, k, byte)
 }
 
@@ -39,10 +31,10 @@ fn put_evaluation(out: &mut [u8], at: usize, e: Evaluation) -> usize
     requires { at + length (evaluation_text e) ≤ length out.old }
     ensures { (result ≡ at + length (evaluation_text e)) × (out.new ≡ written out.old at (evaluation_text e)) }
 {
-    let verdict = put_whole_field(out, at, e.branch, COMMA);
-    let deviation = put_whole_field(out, verdict, e.verdict, COMMA);
-    let correction = put_signed_field(out, deviation, e.deviation, COMMA);
-    put_signed_field(out, correction, e.correction, LINE_FEED)
+    let verdict = put_field(out, at, e.branch, COMMA);
+    let deviation = put_field(out, verdict, e.verdict, COMMA);
+    let correction = put_field(out, deviation, e.deviation, COMMA);
+    put_field(out, correction, e.correction, LINE_FEED)
 }
 
 // Writes the answer of a line from a place on, and answers the next place. No call of a user.
@@ -50,7 +42,7 @@ pub fn put_row(out: &mut [u8], at: usize, r: Row) -> usize
     requires { at + length (row_text (answer_in r)) ≤ length out.old }
     ensures { (result ≡ at + length (row_text (answer_in r))) × (out.new ≡ written out.old at (row_text (answer_in r))) }
 {
-    let refusal = put_whole_field(out, at, r.number, COMMA);
-    let branch = put_whole_field(out, refusal, refusal_in(r.answer), COMMA);
+    let refusal = put_field(out, at, r.number, COMMA);
+    let branch = put_field(out, refusal, refusal_in(r.answer), COMMA);
     put_evaluation(out, branch, r.answer.unwrap_or_default())
 }

@@ -22,8 +22,8 @@ returns c =
     let t3 = t2 ++ signed_field e.deviation comma in
     let fits3 = fits_front at n t3 (signed_field e.correction line_feed) c.requires in
     let fits2 = fits_front at n t2 (signed_field e.deviation comma) fits3 in
-    let put2 = chain _ _ _ at _ _ t1 (whole_field e.verdict comma) fits2 c.put_whole_field-verdict.ensures c.put_whole_field-deviation.ensures in
+    let put2 = chain _ _ _ at _ _ t1 (whole_field e.verdict comma) fits2 c.put_field-verdict.ensures c.put_field-deviation.ensures in
     let put3 = chain _ _ _ at _ _ t2 (signed_field e.deviation comma) fits3 put2
-    (put_read e.deviation comma (search rules) _ _ _ _ c.put_signed_field-correction.ensures) in
+    (put_read e.deviation comma (search rules) _ _ _ _ c.put_field-correction.ensures) in
     chain _ _ _ at _ _ t3 (signed_field e.correction line_feed) c.requires put3
-    (put_read e.correction line_feed (search rules) _ _ _ _ c.put_signed_field.ensures)
+    (put_read e.correction line_feed (search rules) _ _ _ _ c.put_field.ensures)

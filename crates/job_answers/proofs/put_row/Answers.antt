@@ -21,7 +21,7 @@ returns c =
     let t1 = whole_field r.number comma in
     let t2 = t1 ++ whole_field r.refusal comma in
     let fits2 = fits_front at (length c.args.out.now) t2 (evaluation_text r.evaluation) c.requires in
-    let put2 = chain _ _ _ at _ _ t1 (whole_field r.refusal comma) fits2 c.put_whole_field-refusal.ensures
-    (rw c.refusal_in.ensures at c.put_whole_field-branch.ensures) in
+    let put2 = chain _ _ _ at _ _ t1 (whole_field r.refusal comma) fits2 c.put_field-refusal.ensures
+    (rw c.refusal_in.ensures at c.put_field-branch.ensures) in
     chain _ _ _ at _ _ t2 (evaluation_text r.evaluation) c.requires put2
     (rw (evaluated c.args.r.answer _ c.unwrap_or_default.ensures) at c.put_evaluation.ensures)

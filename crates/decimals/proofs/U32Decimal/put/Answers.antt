@@ -3,8 +3,8 @@ use Rattle.std.proofs.Common.{ℕ, ◌+◌, ◌-◌, ◌^◌, ◌<◌, ◌≤◌
 use Rattle.std.proofs.Math.Decide.{dec_lt}
 use Rattle.decimals.specs.DecimalLaws.{one_digit, decimal_longer}
 use Rattle.decimals.proofs.Laws.{Behind, none_yet, within, same_size, next_digit, first_digit}
-use Rattle.decimals.proofs.put_whole.Goals as goal
-use Rattle.decimals.proofs.put_whole.Goals.{After-loop-k}
+use Rattle.decimals.proofs.U32Decimal.put.Goals as goal
+use Rattle.decimals.proofs.U32Decimal.put.Goals.{After-loop-k}
 
 -- before the last digit is written there are more, and then one is left
 more : {old new : List ℕ} {at n m k : ℕ} → Behind old at n new m k → at + 1 < k → 10 ≤ m
