@@ -9,6 +9,7 @@ use text::{MINUS, NOUGHT};
 
 // Writes a byte at a place; answers the place behind it. A place stands beside the buffer here and below: were each text written to the front of a slice, a caller
 // would slice again before each and add up the lengths. No call of a user.
+#[tactic(auto, using(lists::specs::WrittenLaws::written_set))]
 pub fn put_byte(out: &mut [u8], at: usize, b: u8) -> usize
     requires { at + 1 ≤ length out.old }
     ensures { (result ≡ at + 1) × (out.new ≡ written out.old at (b ∷ [])) }
