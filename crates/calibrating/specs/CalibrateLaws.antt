@@ -98,27 +98,32 @@ module _ (area : List ℤ) (whole : length area ≡ area_length) (a : Calibratio
     refused_by_found e n q = rw (q, n) (found_refused (λ z. number_some e (n ∙ z)))
 
     -- what it writes
-    by_found : found.refusal ≡ 0 → {once after : List ℤ} → once ≡ record_put (section_of probes) area a.probe (set numbers j found.trigger)
-        → after ≡ record_put (section_of probes) once a.probe (set (record_of (section_of probes) once a.probe) 6 (pos found.status))
-        → unmeasured 0 after ≡ called area (calibrate a)
-    by_found z {once} {after} e f =
-        let p = section_of probes in
-        let n = (arguments a passed).probe in
-        let inside : end p ≤ length area = section_in area (omega arith) probes in
-        let long : length (set numbers j found.trigger) ≡ 7 = length-set numbers j found.trigger ∙ numbers_long in
+    by_found : found.refusal ≡ 0 → {after : List ℤ}
+        → after ≡ record_put (section_of probes) area a.probe (set (set numbers j found.trigger) 6 (pos found.status)) → unmeasured 0 after ≡ called area (calibrate a)
+    by_found z e =
         let x = at (held area) probes a.probe in
         let none : (direction_left x a).refusal ≡ 0 = ap (λ (c : Calibrated). c.refusal) (sym found_is) ∙ z in
         let new : calibrated_probe x a ≡ with_direction (record_from probes numbers) a found = probe_done x a none ∙ rw (← found_is, probe_is) in
         call_done area (calibrate a) whole (sym refusal_is ∙ none) refl
-        (f ∙ rw (e, number_back p area inside (set numbers j found.trigger) long a.probe n)
-        (number_again p area inside (set numbers j found.trigger) long a.probe (or_zero 3 a.probe n) _ (simp length-set numbers_long))
-        ∙ ap (record_put p area a.probe)
+        (e ∙ ap (record_put (section_of probes) area a.probe)
         (with_two numbers j found.trigger (pos found.status) numbers_long low
         ∙ ap (λ (ts : List ℤ). set ts j found.trigger ++ (pos found.status ∷ [])) (sym triggers_is)
         ∙ rw (new, place_is)))
 
+    pub found_put : {c : Calibrated} → c ≡ found → c.refusal ≡ 0 → {after : List ℤ}
+        → after ≡ record_put (section_of probes) area a.probe (set (set numbers j c.trigger) 6 (pos c.status)) → unmeasured 0 after ≡ called area (calibrate a)
+    found_put q z e = by_found (rw q at z) (rw q at e)
+
+    -- the same of two writes, one after the other
     pub found_done : {c : Calibrated} → c ≡ found → c.refusal ≡ 0 → {once after : List ℤ}
         → once ≡ record_put (section_of probes) area a.probe (set numbers j c.trigger)
         → after ≡ record_put (section_of probes) once a.probe (set (record_of (section_of probes) once a.probe) 6 (pos c.status))
         → unmeasured 0 after ≡ called area (calibrate a)
-    found_done q z e f = by_found (rw q at z) (rw q at e) (rw q at f)
+    found_done {c} q z e f =
+        let p = section_of probes in
+        let n = (arguments a passed).probe in
+        let inside : end p ≤ length area = section_in area (omega arith) probes in
+        let long : length (set numbers j c.trigger) ≡ 7 = length-set numbers j c.trigger ∙ numbers_long in
+        found_put q z
+        (f ∙ rw (e, number_back p area inside (set numbers j c.trigger) long a.probe n)
+        (number_again p area inside (set numbers j c.trigger) long a.probe (or_zero 3 a.probe n) _ (simp length-set numbers_long)))

@@ -12,7 +12,7 @@ use calibration::calibrate_direction;
 use calibration_tests::passed::PassedCalibration;
 use calibration_tests::passed_calibration;
 use floats::Raw;
-use layout::{number_at, put_number};
+use layout::{put_record, record_in};
 use package::arguments::Calibration;
 use package::refusals::Refusal;
 use probes::place_on;
@@ -23,11 +23,11 @@ fn calibrate_passed(area: &mut [i32; AREA], p: PassedCalibration) -> Result<(), 
 {
     let probe = p.given.probe;
     let at = place_on(p.way) - 1;
-    let trigger = number_at(&area[..], PROBES, probe, at);
-    let status = status_from(number_at(&area[..], PROBES, probe, 6));
-    let c = calibrate_direction(trigger, status, p)?;
-    put_number(area, PROBES, probe, at, c.trigger);
-    put_number(area, PROBES, probe, 6, i32::from(c.status));
+    let mut numbers = *record_in(&area[..], PROBES, probe).as_array::<7>().unwrap();
+    let c = calibrate_direction(numbers[at], status_from(numbers[6]), p)?;
+    numbers[at] = c.trigger;
+    numbers[6] = i32::from(c.status);
+    put_record(area, PROBES, probe, &numbers);
     Ok(())
 }
 

@@ -19,6 +19,7 @@ use package::refusals::Refusal;
 use records::{decode, save_memory};
 
 // Writes the values of 40 bytes from a place on.
+// An index, since an array's `map` took ten times as long, and the closure of `from_fn` needs clauses longer than the loop.
 fn write_values(area: &mut [i32], at: usize, bytes: &[u8])
     requires { (at + 20 ≤ length area.old) × (length bytes.now ≡ 40) }
     ensures { area.new ≡ written area.old at (words bytes.now) }
@@ -46,6 +47,7 @@ pub fn load(area: &mut [i32], bytes: &[u8]) -> Result<(), Refusal>
 }
 
 // The values of a section.
+// An index, as in `write_values`.
 fn read_values(area: &[i32], s: Section) -> [i16; 20]
     requires { (s.width ≡ 1) × (s.count ≡ 20) × (end s ≤ length area.now) }
     ensures { result ≡ map (record_from means) (records s area.now) }

@@ -9,7 +9,7 @@ ghost use Rattle.layout.specs.Layout.{end, named, record_of};
 ghost use Rattle.area.specs.Table.{area_length, number, value_from, held};
 
 use area::{AREA, EMPIRICALS, MEANS, OFFSETS, PROBES, TOOLS, status_from, value_from};
-use layout::{Section, number_at};
+use layout::{Section, record_in};
 use package::arguments::{ToolMeasurement, ZeroMeasurement};
 use package::found::{ToolRecords, ZeroRecords};
 use package::records::{Offset, Probe, Wear};
@@ -19,16 +19,10 @@ pub fn probe_at(area: &[i32; AREA], n: i64) -> Probe
     requires n_value { probe_number n ≡ true }
     ensures { result ≡ at (held area.now) probes n }
 {
+    let numbers = record_in(area, PROBES, n);
     Probe {
-        triggers: [
-            number_at(area, PROBES, n, 0),
-            number_at(area, PROBES, n, 1),
-            number_at(area, PROBES, n, 2),
-            number_at(area, PROBES, n, 3),
-            number_at(area, PROBES, n, 4),
-            number_at(area, PROBES, n, 5),
-        ],
-        status: status_from(number_at(area, PROBES, n, 6)),
+        triggers: *numbers.first_chunk().unwrap(),
+        status: status_from(numbers[6]),
     }
 }
 
@@ -39,7 +33,7 @@ fn value_at(area: &[i32; AREA], s: Section, n: i64) -> i16
     requires width_nonzero { 0 < s.width }
     ensures { result ≡ value_from (number (record_of s area.now n) 0) }
 {
-    value_from(number_at(area, s, n, 0))
+    value_from(record_in(area, s, n).first().copied().unwrap_or(0))
 }
 
 // One tool's wears.
@@ -47,10 +41,8 @@ fn wear_at(area: &[i32; AREA], n: i64) -> Wear
     requires n_value { tool_number n ≡ true }
     ensures { result ≡ at (held area.now) tools n }
 {
-    Wear {
-        radius: number_at(area, TOOLS, n, 0),
-        length: number_at(area, TOOLS, n, 1),
-    }
+    let [radius, length] = *record_in(area, TOOLS, n).as_array::<2>().unwrap();
+    Wear { radius, length }
 }
 
 // One zero offset.
@@ -59,11 +51,7 @@ fn offset_at(area: &[i32; AREA], n: i64) -> Offset
     ensures { result ≡ at (held area.now) offsets n }
 {
     Offset {
-        axes: [
-            number_at(area, OFFSETS, n, 0),
-            number_at(area, OFFSETS, n, 1),
-            number_at(area, OFFSETS, n, 2),
-        ],
+        axes: *record_in(area, OFFSETS, n).as_array().unwrap(),
     }
 }
 

@@ -6,7 +6,7 @@ ghost use Rattle.package.specs.StatusAnswers.{status_by};
 ghost use Rattle.status_reading.specs.StatusRead.{status_called};
 
 use area::{AREA, PROBES, status_from};
-use layout::number_at;
+use layout::record_in;
 use package::limits::PROBE_COUNT;
 use package::records::Directions;
 use package::refusals::Refusal;
@@ -24,5 +24,5 @@ pub fn probe_status(area: &[i32], probe: i64) -> Result<Directions, Refusal>
     if !in_range(probe, 1, PROBE_COUNT) {
         return Err(Refusal::NoSuchNumber);
     }
-    Ok(status_answer(status_from(number_at(whole, PROBES, probe, 6))))
+    Ok(status_answer(status_from(record_in(whole, PROBES, probe)[6])))
 }
