@@ -2,25 +2,26 @@
 #![tactic(auto)]
 
 ghost use Rattle.std.specs.Prelude.{◌≡◌};
-ghost use Rattle.rules.specs.Tool.{found_tests};
+ghost use Rattle.rules.specs.Tool.{tool_kind_of, found_tests};
 
 use evaluation::FoundTool;
-use package::found::Tests;
+use package::arguments::ToolMeasurement;
+use package::found::{Kind, Tests};
 use package::limits::WEAR_LIMIT;
-use record_tests::wide;
+use record_tests::widths_ok;
 use signed::{in_range, magnitude};
-use tool_refusals::PassedTool;
 
-// What of the records allows the measurement.
-pub fn tests_of(p: PassedTool, f: FoundTool) -> Tests
-    ensures { result ≡ found_tests p.given f.found }
+// What of the records allows the measurement. No call of a user.
+pub fn tool_tests(k: Kind, a: ToolMeasurement<i64>, f: FoundTool) -> Tests
+    requires k_value { k ≡ tool_kind_of a }
+    ensures { result ≡ found_tests a f.found }
 {
-    let limits = p.given.limits;
+    let limits = a.limits;
     let found = f.found;
     let far = magnitude(found.deviation);
     Tests {
         calibrated: found.calibrated,
-        pairs: wide(p.probed, found.sizes),
+        pairs: widths_ok(k, a.probing, found.sizes),
         tsa: far <= limits.tsa,
         tdif: far <= limits.tdif,
         range: in_range(found.wear, -WEAR_LIMIT, WEAR_LIMIT),

@@ -2,46 +2,32 @@
 #![tactic(auto)]
 
 ghost use Rattle.std.specs.Prelude.{◌≡◌, ◌≤◌, nat_abs};
-ghost use Rattle.package.specs.Ways.{axis_number};
-ghost use Rattle.rules.specs.Sizes.{pair_in};
 ghost use Rattle.rules.specs.Zero.{corrects, growth};
 
 use evaluation::difference_of;
-use kind_tests::Probed;
-use package::found::{Form, Sizes};
-use package::ways::Axis;
-use sizes::MeasuredSizes;
+use package::arguments::Probing;
+use package::found::{Form, Kind};
+use sizes::{MeasuredSizes, pair_on};
 
-// Whether the offset's axis is corrected.
-fn corrects_on(p: Probed, axis: Axis) -> bool
-    ensures { result ≡ corrects p.kind p.probing (axis_number axis) }
+// Whether axis n of the offset is corrected.
+fn corrects_on(k: Kind, a: Probing, n: i64) -> bool
+    ensures { result ≡ corrects k a n }
 {
-    match p.kind.form {
-        Form::Double => (axis == Axis::First) | (axis == Axis::Second),
-        _ => p.probing.axis == axis as i64,
+    match k.form {
+        Form::Double => (n == 1) | (n == 2),
+        _ => a.axis == n,
     }
 }
 
-// The shift of the pair on an axis, 0 where none is measured.
-fn shift_on(s: Sizes, axis: Axis) -> i64
-    ensures { result ≡ (pair_in s (axis_number axis)).shift }
+// The h by which axis n of the offset grows: a plane's by twice its deviation, a pair's by its shift.
+pub fn growth_of(k: Kind, a: Probing, s: MeasuredSizes, n: i64) -> i64
+    ensures { (result ≡ growth k a s.sizes n) × (nat_abs result ≤ 100000000) }
 {
-    match axis {
-        Axis::First => s.abscissa.shift,
-        Axis::Second => s.ordinate.shift,
-        Axis::Third => 0,
-    }
-}
-
-// The h by which an axis of the offset grows: a plane's by twice its deviation, a pair's by its shift.
-pub fn growth_of(p: Probed, s: MeasuredSizes, axis: Axis) -> i64
-    ensures { (result ≡ growth p.kind p.probing s.sizes (axis_number axis)) × (nat_abs result ≤ 100000000) }
-{
-    if !corrects_on(p, axis) {
+    if !corrects_on(k, a, n) {
         return 0;
     }
-    match p.kind.form {
+    match k.form {
         Form::Plane => 2 * difference_of(s.sizes.held, 0),
-        _ => shift_on(s.sizes, axis),
+        _ => pair_on(s.sizes, n).shift,
     }
 }

@@ -3,32 +3,27 @@ use Rattle.std.proofs.Common.{◌≡◌, ap, ap₂, ◌∙◌, Bool, true, ◌&&
 use Rattle.std.proofs.Math.Bool.{and-true}
 use Rattle.std.specs.Int.Signed.{mag}
 use Rattle.signed.specs.CodeLaws.{read}
-use Rattle.lists.specs.Each.{every, every_append}
+use Rattle.lists.specs.Each.{Each, every, every_append}
 use Rattle.package.specs.declared.found.Form.TheVariants.{Plane, Single, Double}
 use Rattle.package.specs.declared.found.Kind.{Kind}
 use Rattle.package.specs.declared.arguments.Probing.{Probing}
 use Rattle.package.specs.Given.{Raws}
 use Rattle.rules.specs.Stores.{position_range, width_range}
-use Rattle.rules.specs.Sizes.{Across, pairs, positions_ok}
+use Rattle.rules.specs.Kinds.{kind}
+use Rattle.rules.specs.Sizes.{pairs, positions_ok}
 
 abbrev pub in_range : List ℤ → Bool
 in_range = every position_range
-
-set_of : {p r : Across} → p ∷ [] ≡ r ∷ [] → p.set ≡ r.set
-set_of e = cc
 
 module _ (k : Kind) (a : Probing) (q : Raws) where
   pub of_plane : k.form ≡ Plane → positions_ok k a q ≡ (position_range q.r1 && position_range a.setpoint)
   unfolding positions_ok
   of_plane f = rw f (ap (λ b. b && position_range a.setpoint) (and-true (position_range q.r1 && true) ∙ and-true (position_range q.r1)))
 
-  pub of_single : (p : Across) → k.form ≡ Single → pairs k a ≡ p ∷ [] →
-      positions_ok k a q ≡ (in_range (q.r1 ∷ q.r2 ∷ []) && position_range p.set && width_range a.setpoint)
+  pub of_single : (set : ℤ) → k.form ≡ Single → Each (λ p. p.set ≡ set) (pairs (kind Single k.inside) a) →
+      positions_ok k a q ≡ (in_range (q.r1 ∷ q.r2 ∷ []) && position_range set && width_range a.setpoint)
   unfolding positions_ok
-  of_single p f e =
-      rw f
-      (ap (λ b. in_range (q.r1 ∷ q.r2 ∷ []) && b && width_range a.setpoint)
-      (rw (set_of (rw f at e)) (and-true (position_range p.set))))
+  of_single set f e = rw (f, e.0) (ap (λ b. in_range (q.r1 ∷ q.r2 ∷ []) && b && width_range a.setpoint) (and-true (position_range set)))
 
   pub of_double : k.form ≡ Double →
       positions_ok k a q ≡ ((in_range (q.r1 ∷ q.r2 ∷ []) && in_range (q.r3 ∷ q.r4 ∷ [])) && in_range (a.c1 ∷ a.c2 ∷ []) && width_range a.setpoint)

@@ -14,9 +14,9 @@ ghost use Rattle.kinds.specs.KindLaws.{touches_prop};
 ghost use Rattle.kind_tests.specs.Probing.{probing_rules, NumbersIf};
 
 use floats::{Raw, positions_of};
-use kinds::{Surfaces, surfaces_of};
+use kinds::{Surfaces, single_centre, surfaces_of};
 use package::arguments::{Probing, Raws};
-use package::found::Kind;
+use package::found::{Form, Kind};
 use package::limits::{POSITION_LIMIT, PROBE_COUNT};
 use package::refusals::Refusal;
 use signed::in_range;
@@ -42,7 +42,7 @@ impl Probed {
     {
         let surfaces = numbered(kind, probing)?;
         let raws = positions_of(kind, probing, raws).ok_or(Refusal::BadFloat)?;
-        if used_ok(surfaces, probing, raws) {
+        if positions_ok(kind, probing, raws) {
             Ok(Probed {
                 kind,
                 probing,
@@ -58,7 +58,7 @@ impl Probed {
 // What is touched, where the numbers that the kind uses are numbers of their stores.
 #[tactic(auto, unfolding(rules::specs::Sizes::numbers_ok))]
 #[inline(always)]
-fn numbered(k: Kind, a: Probing) -> Result<Surfaces, Refusal>
+pub fn numbered(k: Kind, a: Probing) -> Result<Surfaces, Refusal>
     ensures { NumbersIf k a result }
 {
     if !in_range(a.probe, 1, PROBE_COUNT) {
@@ -69,13 +69,13 @@ fn numbered(k: Kind, a: Probing) -> Result<Surfaces, Refusal>
 
 // Whether the used positions, set centres and setpoint are in range.
 #[inline(always)]
-fn used_ok(s: Surfaces, a: Probing, q: Raws<i64>) -> bool
-    ensures { (k : Kind) → Touches k a s → result ≡ positions_ok k a q }
+pub fn positions_ok(k: Kind, a: Probing, q: Raws<i64>) -> bool
+    ensures { result ≡ positions_ok k a q }
 {
-    match s {
-        Surfaces::Plane(_) => position_ok(q.r1) & position_ok(a.setpoint),
-        Surfaces::Pair(p) => both_ok(q.r1, q.r2) & position_ok(p.set) & width_ok(a.setpoint),
-        Surfaces::Pairs(_) => {
+    match k.form {
+        Form::Plane => position_ok(q.r1) & position_ok(a.setpoint),
+        Form::Single => both_ok(q.r1, q.r2) & position_ok(single_centre(a)) & width_ok(a.setpoint),
+        Form::Double => {
             let raws = both_ok(q.r1, q.r2) & both_ok(q.r3, q.r4);
             raws & both_ok(a.c1, a.c2) & width_ok(a.setpoint)
         }

@@ -1,7 +1,7 @@
 -- What the tests of a kind's arguments tell: of its probe, of a plane, and of every pair.
 use Rattle.std.specs.Prelude.{◌≡◌, refl, Bool, true, false, cond, ◌&&◌, [], ◌∷◌, zero, suc, ℤ, pos, negsuc, Ok, Err}
 use Rattle.std.proofs.Math.Bool.{and-eq-true_iff}
-use Rattle.std.proofs.Common.{sym, ◌∙◌, arith}
+use Rattle.std.proofs.Common.{arith}
 use Rattle.std.proofs.Props.{props}
 use Rattle.signed.specs.Ranges.{within}
 use Rattle.signed.specs.RangeLaws.{true_T, below_top}

@@ -1,15 +1,22 @@
 // The kinds of measurement, and the surfaces that each touches. Document 01, 'Measured sizes'.
 #![tactic(auto)]
 
-ghost use Rattle.std.specs.Prelude.{◌≡◌, cond, pos};
+ghost use Rattle.std.specs.Prelude.{◌≡◌, Bool, cond, pos};
+ghost use Rattle.lists.specs.Each.{Each};
+ghost use Rattle.package.specs.declared.found.Form.TheVariants.{Single};
 ghost use Rattle.package.specs.Ways.{axis_number, direction_number};
-ghost use Rattle.rules.specs.Kinds.{tool_kind, tool_kind_number};
+ghost use Rattle.rules.specs.Kinds.{kind, tool_kind, tool_kind_number};
+ghost use Rattle.rules.specs.Sizes.{pairs};
 ghost use Rattle.kinds.specs.Touches.{known, across, span, TouchesIf};
 
 use package::arguments::Probing;
 use package::found::{Form, Kind};
 use package::refusals::Refusal;
 use package::ways::{Axis, Direction, Way};
+use signed::in_range;
+
+// The greatest number of a kind with tool offset.
+const GREATEST_KIND: i64 = 4;
 
 // A surface that is touched: the way in which it is touched, and the number of its raw.
 #[derive(Clone, Copy)]
@@ -41,20 +48,29 @@ pub enum Surfaces {
     Pairs(Both),
 }
 
-// The kind of a number with tool offset.
-#[inline(always)]
-pub fn tool_kind(n: i64) -> Result<Kind, Refusal>
-    ensures { result ≡ known (tool_kind_number n) (tool_kind n) }
+// The kind of a number with tool offset; a plane where there is none.
+pub fn kind_of(n: i64) -> Kind
+    ensures { result ≡ tool_kind n }
 {
     let (form, inside) = match n {
-        0 => (Form::Plane, false),
         1 => (Form::Double, true),
         2 => (Form::Double, false),
         3 => (Form::Single, true),
         4 => (Form::Single, false),
-        _ => return Err(Refusal::NoSuchNumber),
+        _ => (Form::Plane, false),
     };
-    Ok(Kind { form, inside })
+    Kind { form, inside }
+}
+
+// The same, where its number is one.
+#[inline(always)]
+pub fn tool_kind(n: i64) -> Result<Kind, Refusal>
+    ensures { result ≡ known (tool_kind_number n) (tool_kind n) }
+{
+    if !in_range(n, 0, GREATEST_KIND) {
+        return Err(Refusal::NoSuchNumber);
+    }
+    Ok(kind_of(n))
 }
 
 // The directions in which the low and the high surface of a pair are touched: inside kinds touch low in the negative, outside kinds in the positive.
@@ -81,6 +97,17 @@ fn span(inside: bool, axis: Axis, raws: (i64, i64), set: i64) -> Across
         low: touch(low, raws.0),
         high: touch(high, raws.1),
         set,
+    }
+}
+
+// The set centre of a groove or web, by its axis.
+pub fn single_centre(a: Probing) -> i64
+    ensures { (inside : Bool) → Each (λ p. p.set ≡ result) (pairs (kind Single inside) a) }
+{
+    match a.axis {
+        1 => a.c1,
+        2 => a.c2,
+        _ => 0,
     }
 }
 

@@ -7,19 +7,20 @@ ghost use Rattle.rules.specs.Stores.{offset_range};
 ghost use Rattle.rules.specs.Zero.{growth, within_twice_tsa, axis_of};
 
 use growths::growth_of;
-use kind_tests::Probed;
+use package::arguments::{Probing, ZeroMeasurement};
+use package::found::Kind;
 use package::limits::OFFSET_LIMIT;
 use package::records::Offset;
 use package::ways::Axis;
 use signed::{in_range, magnitude};
 use sizes::MeasuredSizes;
-use zero_refusals::PassedZero;
 
-// Whether the growth of an axis keeps to TSA, which is doubled for h.
-pub fn growth_ok(z: PassedZero, s: MeasuredSizes, axis: Axis) -> bool
-    ensures { result ≡ within_twice_tsa z.given (growth z.probed.kind z.given.probing s.sizes (axis_number axis)) }
+// Whether the growth of axis n keeps to TSA, which is doubled for h. No call of a user.
+pub fn growth_ok(k: Kind, a: ZeroMeasurement<i64>, s: MeasuredSizes, n: i64) -> bool
+    requires { nat_abs a.tsa ≤ 1000000 }
+    ensures { result ≡ within_twice_tsa a (growth k a.probing s.sizes n) }
 {
-    magnitude(growth_of(z.probed, s, axis)) <= 2 * z.given.tsa
+    magnitude(growth_of(k, a.probing, s, n)) <= 2 * a.tsa
 }
 
 // The number of an offset on an axis.
@@ -38,20 +39,27 @@ fn grown(v: i32, by: i64) -> i64
     requires { nat_abs by ≤ 100000000 }
     ensures { result ≡ v +ℤ by }
 {
-    (v as i64) + by
+    i64::from(v) + by
+}
+
+// The number of an axis.
+fn number_of(axis: Axis) -> i64
+    ensures { result ≡ axis_number axis }
+{
+    axis as i64
 }
 
 // The number v of an offset on an axis, after its growth.
-pub fn axis_left(v: i32, p: Probed, s: MeasuredSizes, axis: Axis) -> i64
-    ensures { result ≡ v +ℤ growth p.kind p.probing s.sizes (axis_number axis) }
+pub fn axis_left(v: i32, k: Kind, a: Probing, s: MeasuredSizes, axis: Axis) -> i64
+    ensures { result ≡ v +ℤ growth k a s.sizes (axis_number axis) }
 {
-    grown(v, growth_of(p, s, axis))
+    grown(v, growth_of(k, a, s, number_of(axis)))
 }
 
 // Whether an axis stays in range.
-pub fn left_ok(o: Offset, p: Probed, s: MeasuredSizes, axis: Axis) -> bool
-    ensures { result ≡ offset_range (axis_of o (axis_number axis) +ℤ growth p.kind p.probing s.sizes (axis_number axis)) }
+pub fn left_ok(o: Offset, k: Kind, a: Probing, s: MeasuredSizes, axis: Axis) -> bool
+    ensures { result ≡ offset_range (axis_of o (axis_number axis) +ℤ growth k a s.sizes (axis_number axis)) }
 {
-    let left = axis_left(stored(o, axis), p, s, axis);
+    let left = axis_left(stored(o, axis), k, a, s, axis);
     in_range(left, -OFFSET_LIMIT, OFFSET_LIMIT)
 }

@@ -4,17 +4,16 @@
 
 ghost use Rattle.std.specs.Prelude.{◌≡◌, [], ◌∷◌};
 ghost use Rattle.lists.specs.Each.{every};
-ghost use Rattle.package.specs.Ways.{axis_number};
 ghost use Rattle.rules.specs.Probes.{calibrated_in};
-ghost use Rattle.rules.specs.Sizes.{pair_in, calibrated_ok, pairs_ok};
-ghost use Rattle.kinds.specs.Touches.{touch};
+ghost use Rattle.rules.specs.Sizes.{calibrated_ok, pairs_ok};
+ghost use Rattle.kinds.specs.Touches.{touch, Touches};
 
-use kind_tests::Probed;
 use kinds::{Across, Surfaces};
-use package::found::Sizes;
+use package::arguments::Probing;
+use package::found::{Form, Kind, Sizes};
 use package::records::Probe;
-use package::ways::Axis;
 use probes::calibrated_on;
+use sizes::pair_on;
 
 // Whether both directions of a pair are calibrated.
 fn pair_calibrated(x: Probe, p: Across) -> bool
@@ -25,10 +24,10 @@ fn pair_calibrated(x: Probe, p: Across) -> bool
 
 // Whether every direction that a measurement needs is calibrated.
 #[tactic(auto, unfolding(rules::specs::Sizes::calibrated_ok))]
-pub fn calibrated(x: Probe, p: Probed) -> bool
-    ensures { result ≡ calibrated_ok x.status p.kind p.probing }
+pub fn calibrated(x: Probe, t: Surfaces) -> bool
+    ensures { (k : Kind) (a : Probing) → Touches k a t → result ≡ calibrated_ok x.status k a }
 {
-    match p.surfaces {
+    match t {
         Surfaces::Plane(touch) => calibrated_on(x, touch.way),
         Surfaces::Pair(pair) => pair_calibrated(x, pair),
         Surfaces::Pairs(both) => {
@@ -37,24 +36,14 @@ pub fn calibrated(x: Probe, p: Probed) -> bool
     }
 }
 
-// The width of the pair on an axis, 0 where none is measured.
-fn width_on(s: Sizes, axis: Axis) -> i64
-    ensures { result ≡ (pair_in s (axis_number axis)).width }
-{
-    match axis {
-        Axis::First => s.abscissa.width,
-        Axis::Second => s.ordinate.width,
-        Axis::Third => 0,
-    }
-}
-
 // Whether every pair measured has its high surface above its low one.
-pub fn wide(p: Probed, s: Sizes) -> bool
-    ensures { result ≡ pairs_ok p.kind p.probing s }
+#[tactic(auto, unfolding(rules::specs::Sizes::pairs_ok))]
+pub fn widths_ok(k: Kind, a: Probing, s: Sizes) -> bool
+    ensures { result ≡ pairs_ok k a s }
 {
-    match p.surfaces {
-        Surfaces::Plane(_) => true,
-        Surfaces::Pair(pair) => 1 <= width_on(s, pair.low.way.axis),
-        Surfaces::Pairs(_) => (1 <= s.abscissa.width) & (1 <= s.ordinate.width),
+    match k.form {
+        Form::Plane => true,
+        Form::Single => 1 <= pair_on(s, a.axis).width,
+        Form::Double => (1 <= s.abscissa.width) & (1 <= s.ordinate.width),
     }
 }

@@ -15,7 +15,7 @@ ghost use Rattle.measuring.specs.ReplyLaws.{arguments_of};
 
 use area::{AREA, MEANS, TOOLS};
 use floats::Raw;
-use found_tests::tests_of;
+use found_tests::tool_tests;
 use layout::put_record;
 use measuring::answered;
 use package::arguments::ToolMeasurement;
@@ -28,7 +28,7 @@ use result_numbers::DoneTool;
 use results::put_numbers;
 use tool_offset::find;
 use tool_refusals::{PassedTool, passed_tool};
-use wears::wears_after;
+use wears::wears_left;
 
 // Writes the mean value and the wears that a measurement leaves.
 fn put_tool(area: &mut [i32; AREA], a: ToolMeasurement<i64>, mean: i64, w: Wear)
@@ -54,12 +54,12 @@ fn measure_passed(
     let a = p.given;
     let r = tool_records(area, a);
     let f = find(r, p);
-    allowed(tests_of(p, f))?;
+    allowed(tool_tests(p.probed.kind, a, f))?;
     put_tool(
         area,
         a,
         f.found.decision.mean,
-        wears_after(r.wear, p.probed, f.found.wear),
+        wears_left(r.wear, p.probed.kind, a.probing, f.found.wear),
     );
     let done = DoneTool {
         passed: p,

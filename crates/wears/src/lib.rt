@@ -5,56 +5,54 @@ ghost use Rattle.std.specs.Prelude.{◌≡◌, true, ◌≤◌, nat_abs, ◌+ℤ
 ghost use Rattle.rules.specs.Stores.{wear_range};
 ghost use Rattle.rules.specs.Tool.{factor, on_length, wear_on, with_wear_on};
 
-use kind_tests::Probed;
-use kinds::Surfaces;
+use package::arguments::Probing;
+use package::found::{Form, Kind};
 use package::records::Wear;
-use package::ways::Axis;
-use probes::sign_in;
+use probes::sign_of;
 
 // The h by which a wear grows for a unit of correction: inside kinds add, outside kinds subtract.
-fn factor_of(p: Probed) -> i64
-    ensures value { result ≡ factor p.kind p.probing.direction }
-    ensures size { nat_abs result ≤ 2 }
+fn factor_of(k: Kind, direction: i64) -> i64
+    ensures { result ≡ factor k direction }
 {
-    match p.surfaces {
-        Surfaces::Plane(touch) => 2 * sign_in(touch.way.direction),
-        Surfaces::Pair(_) | Surfaces::Pairs(_) => { if p.kind.inside { 1 } else { -1 } }
+    match k.form {
+        Form::Plane => 2 * sign_of(direction),
+        Form::Single | Form::Double => { if k.inside { 1 } else { -1 } }
     }
 }
 
 // Whether the length wear is corrected: by a plane on axis 3.
-fn on_length(p: Probed) -> bool
-    ensures { result ≡ on_length p.kind p.probing.axis }
+fn on_length(k: Kind, axis: i64) -> bool
+    ensures { result ≡ on_length k axis }
 {
-    match p.surfaces {
-        Surfaces::Plane(touch) => touch.way.axis == Axis::Third,
-        Surfaces::Pair(_) | Surfaces::Pairs(_) => false,
+    match k.form {
+        Form::Plane => axis == 3,
+        Form::Single | Form::Double => false,
     }
 }
 
-// The wear that is corrected.
-fn worn(w: Wear, p: Probed) -> i64
-    ensures { (result ≡ wear_on (on_length p.kind p.probing.axis) w) × (nat_abs result ≤ 2147483648) }
+// One of a tool's two wears.
+fn wear_on(w: Wear, length: bool) -> i64
+    ensures { (result ≡ wear_on length w) × (nat_abs result ≤ 2147483648) }
 {
-    let wear = if on_length(p) { w.length } else { w.radius };
+    let wear = if length { w.length } else { w.radius };
     i64::from(wear)
 }
 
 // The wear that is corrected, with the correction c added. No call of a user.
-pub fn wear_after(w: Wear, p: Probed, c: i64) -> i64
+pub fn wear_left(w: Wear, k: Kind, a: Probing, c: i64) -> i64
     requires { nat_abs c ≤ 100000000 }
-    ensures { result ≡ wear_on (on_length p.kind p.probing.axis) w +ℤ factor p.kind p.probing.direction *ℤ c }
+    ensures { result ≡ wear_on (on_length k a.axis) w +ℤ factor k a.direction *ℤ c }
 {
-    worn(w, p) + factor_of(p) * c
+    wear_on(w, on_length(k, a.axis)) + factor_of(k, a.direction) * c
 }
 
 // A tool's wears with the one that is corrected replaced. No call of a user.
-pub fn wears_after(w: Wear, p: Probed, v: i64) -> Wear
+pub fn wears_left(w: Wear, k: Kind, a: Probing, v: i64) -> Wear
     requires { wear_range v ≡ true }
-    ensures { result ≡ with_wear_on (on_length p.kind p.probing.axis) w v }
+    ensures { result ≡ with_wear_on (on_length k a.axis) w v }
 {
     let wear = v as i32;
-    if on_length(p) {
+    if on_length(k, a.axis) {
         Wear { length: wear, ..w }
     } else {
         Wear { radius: wear, ..w }

@@ -1,14 +1,11 @@
 -- By cases: a plane's axis grows by twice its deviation, a pair's by its shift; each size is within the bound.
-use Rattle.std.proofs.Common.{◌≡◌, refl, sym, ap, ◌∙◌, ◌≤◌, ℤ, pos, ◌*ℤ◌, w64, arith}
+use Rattle.std.proofs.Common.{◌≡◌, refl, sym, ap, ◌∙◌, ◌≤◌, zero, suc, ℤ, pos, negsuc, ◌*ℤ◌, w64, arith, rules, to_z-of_z}
 use Rattle.std.proofs.Math.IntN.{nat_abs}
 use Rattle.signed.specs.CodeLaws.{read}
 use Rattle.signed.specs.Expressions.{Ex, lit, bound, mul, sized, Runs, run}
 use Rattle.package.specs.declared.found.Form.{Form}
 use Rattle.package.specs.declared.found.Form.TheVariants.{Plane, Single, Double}
 use Rattle.package.specs.declared.found.Sizes.{Sizes}
-use Rattle.package.specs.declared.ways.Axis.{Axis}
-use Rattle.package.specs.declared.ways.Axis.TheVariants.{First, Second, Third}
-use Rattle.package.specs.Ways.{axis_number}
 use Rattle.rules.specs.Kinds.{by_form}
 use Rattle.rules.specs.Sizes.{pair_in}
 use Rattle.sizes.specs.SizeLaws.{SizesSmall}
@@ -25,15 +22,17 @@ pub returns-in-Plane : goal.returns-in-Plane
 returns-in-Plane c =
     let d = c.difference_of.result in
     let h = c.difference_of.ensures.1 in
-    let corrected = sym c.corrects_on.ensures ∙ c.if-not-corrects_on.false in
+    let corrected = rw (to_z-of_z c.ranges.n) at (sym c.corrects_on.ensures ∙ c.if-not-corrects_on.false) in
     rw (corrected, c.in-Plane.is)
     ((runs d h).value ∙ ap (λ (d : ℤ). pos 2 *ℤ d) c.difference_of.ensures.0, rw (runs d h).value (omega (arith, sized (twice d h))))
 
 -- ---- a pair: its shift
-shift_size : (s : Sizes) → SizesSmall s → (n : Axis) → nat_abs (pair_in s (axis_number n)).shift ≤ 100000000
-shift_size s t First = omega (arith, t.abscissa.shift)
-shift_size s t Second = omega (arith, t.ordinate.shift)
-shift_size s t Third = omega arith
+shift_size : (s : Sizes) → SizesSmall s → (n : ℤ) → nat_abs (pair_in s n).shift ≤ 100000000
+shift_size s t (pos zero) = omega arith
+shift_size s t (pos (suc zero)) = omega (arith, t.abscissa.shift)
+shift_size s t (pos (suc (suc zero))) = omega (arith, t.ordinate.shift)
+shift_size s t (pos (suc (suc (suc n)))) = omega arith
+shift_size s t (negsuc n) = omega arith
 
 of_a_pair : {A : Type 0} (f : Form) (a b : A) → (f ≡ Plane → ⊥) → by_form f a b b ≡ b
 of_a_pair Plane a b h = absurd (h refl)
@@ -43,6 +42,7 @@ of_a_pair Double a b h = refl
 pub returns-in_default : goal.returns-in_default
 returns-in_default c =
     let a = c.args in
-    let corrected = sym c.corrects_on.ensures ∙ c.if-not-corrects_on.false in
-    rw (corrected, read c.shift_on.result c.shift_on.type_inv)
-    (c.shift_on.ensures ∙ sym (of_a_pair a.p.kind.form _ _ c.in_default.not-Plane), rw c.shift_on.ensures (shift_size a.s.sizes a.s.small a.axis))
+    let corrected = rw (to_z-of_z c.ranges.n) at (sym c.corrects_on.ensures ∙ c.if-not-corrects_on.false) in
+    let pair = rw (to_z-of_z c.ranges.n) at c.pair_on.ensures in
+    let shift = read c.pair_on.result.shift (search rules) ∙ ap (λ p. p.shift) pair in
+    rw (corrected, shift) (sym (of_a_pair a.k.form _ _ c.in_default.not-Plane), shift_size a.s.sizes a.s.small a.n)

@@ -1,8 +1,8 @@
 -- An area of another length.
-use Rattle.std.proofs.Common.{◌≡◌, arith, rules}
+use Rattle.std.proofs.Common.{rules}
 use Rattle.package.specs.Given.{tool_by}
 use Rattle.measuring.specs.Reply.{tool}
-use Rattle.measuring.specs.ReplyLaws.{Asked, wrong_area}
+use Rattle.measuring.specs.ReplyLaws.{wrong_area}
 use Rattle.tool_measuring.proofs.evaluate_tool.Goals as goal
 
 pub returns-in_default : goal.returns-in_default

@@ -27,10 +27,10 @@ returns c =
     let mean : to_z w16 (of_z w16 r.mean) ≡ r.mean = search rules in
     let correction : to_z w64 (of_z w64 dc.result.correction) ≡ dc.result.correction = search rules in
     let sizes = rw (p.probing.0, p.probing.1) at c.measured.ensures in
-    let calibrated = rw p.probing.0 at c.calibrated.ensures in
+    let calibrated = rw p.probing.0 at (c.calibrated.ensures p.probed.kind p.probed.probing p.probed.touched) in
     let deviation = d.ensures.0 ∙ ap (difference c.measured.result.sizes.held) ev in
     let decision = dc.ensures.0 ∙ ap₂ (λ m n. decided a.limits (named a) m n (weight a)) mean (read d.result d.type_inv) in
-    let wear = (rw p.probing.0 at c.wear_after.ensures)
+    let wear = (rw p.probing.0 at c.wear_left.ensures)
     ∙ ap (λ (n : ℤ). wear_on (on_length p.probed.kind a.probing.axis) r.wear +ℤ factor p.probed.kind a.probing.direction *ℤ n) correction in
-    rw (ev, read d.result d.type_inv, read c.wear_after.result c.wear_after.type_inv)
+    rw (ev, read d.result d.type_inv, read c.wear_left.result c.wear_left.type_inv)
     (found_is r a p.named calibrated sizes deviation decision wear)
