@@ -3,7 +3,7 @@
 
 ghost use Rattle.std.specs.Prelude.{◌≡◌, option_map};
 ghost use Rattle.measuring.specs.Reply as measuring;
-ghost use Rattle.measuring.specs.Reply.{tool, zero, reply, decided_in, exported_of, measured_as, measured_on};
+ghost use Rattle.measuring.specs.Reply.{tool, zero, reply, decided_in, exported_of, measured_as, measured_on, results_left};
 ghost use Rattle.package.specs.Given.{tool_by, zero_by};
 ghost use Rattle.area.specs.Called.{answered_by};
 ghost use Rattle.lent_measuring.specs.LentMeasured.{tool_lent, zero_lent, tool_readings_lent, zero_readings_lent};
@@ -12,40 +12,73 @@ use area::AREA;
 use arguments::{tool_of, zero_of};
 use floats::Raw;
 use lent_reports::lent_readings;
+use measuring::{answered, lent};
 use package::arguments::{Reading, ToolMeasurement, ZeroMeasurement};
 use package::found::Evaluation;
 use package::refusals::Refusal;
-use results::has_room;
-use tool_measuring::evaluate_tool;
-use zero_measuring::evaluate_zero;
+use tool_measuring::measure_tool;
+use zero_measuring::measure_zero;
 
 // A measurement of either way.
 pub trait Measurement: Copy {
     ghost said: { Self → measuring.Measurement };
 
-    // Measures; the 42 numbers are written to the front of the results where they have room for them.
-    fn evaluate(self, area: &mut [i32], results: &mut [i32]) -> Result<Evaluation, Refusal>
-        ensures { measured_as (answered_by result area.new) results.new
-            ≡ measured_on area.old (said self) results.old 0 };
+    // Measures; the 42 numbers of a measurement that is done are written to the results from the place on, where they have room for them.
+    fn measure_on(
+        self,
+        area: &mut [i32; AREA],
+        results: &mut [i32],
+        place: usize,
+    ) -> Result<Evaluation, Refusal>
+        ensures { measured_as (answered_by result area.new) (results_left result results.new place)
+            ≡ measured_on area.old (said self) results.old place };
 }
 
 impl<T: Raw> Measurement for ToolMeasurement<T> {
     ghost said = { λ t. tool (tool_by T.reading t) };
 
-    fn evaluate(self, area: &mut [i32], results: &mut [i32]) -> Result<Evaluation, Refusal> {
-        evaluate_tool(area, self, results)
+    #[inline(always)]
+    fn measure_on(
+        self,
+        area: &mut [i32; AREA],
+        results: &mut [i32],
+        place: usize,
+    ) -> Result<Evaluation, Refusal> {
+        measure_tool(area, self, results, place)
     }
 }
 
 impl<T: Raw> Measurement for ZeroMeasurement<T> {
     ghost said = { λ t. zero (zero_by T.reading t) };
 
-    fn evaluate(self, area: &mut [i32], results: &mut [i32]) -> Result<Evaluation, Refusal> {
-        evaluate_zero(area, self, results)
+    #[inline(always)]
+    fn measure_on(
+        self,
+        area: &mut [i32; AREA],
+        results: &mut [i32],
+        place: usize,
+    ) -> Result<Evaluation, Refusal> {
+        measure_zero(area, self, results, place)
     }
 }
 
-// Measures where as many arguments were lent as a measurement has, and writes the 42 numbers that begin at place.
+// Measures; the 42 numbers are written to the results from the place on, where they have room for them.
+pub fn evaluate<M: Measurement>(
+    area: &mut [i32],
+    m: M,
+    results: &mut [i32],
+    place: usize,
+) -> Result<Evaluation, Refusal>
+    ensures { measured_as (answered_by result area.new) results.new
+        ≡ measured_on area.old (M.said m) results.old place }
+{
+    let Some(whole) = area.as_mut_array::<AREA>() else {
+        return Err(Refusal::WrongArea);
+    };
+    answered(m.measure_on(whole, results, place), results, place)
+}
+
+// Measures where as many arguments were lent as a measurement has, and the 42 numbers have room from the place on.
 pub fn measure<M: Measurement>(
     area: &mut [i32],
     m: Option<M>,
@@ -55,16 +88,8 @@ pub fn measure<M: Measurement>(
     ensures { reply (decided_in result) area.new results.new
         ≡ exported_of area.old (option_map M.said m) results.old place }
 {
-    if area.len() != AREA {
-        return Err(Refusal::WrongArea);
-    }
-    let Some(m) = m else {
-        return Err(Refusal::WrongArguments);
-    };
-    if !has_room(results.len(), place) {
-        return Err(Refusal::NoRoom);
-    }
-    m.evaluate(area, &mut results[place..])
+    lent(area.len(), m.is_some(), results.len(), place)?;
+    evaluate(area, m.unwrap(), results, place)
 }
 
 // What a measurement with tool offset is lent, where it is 21 numbers.

@@ -1,5 +1,5 @@
 -- What a measurement with tool offset that is done leaves, by what the code found.
-use Rattle.std.proofs.Common.{◌≡◌, ◌∙◌, ap, ap₂, sym, arith, List, [], ◌∷◌, ℤ, length, true, Result, Err}
+use Rattle.std.proofs.Common.{◌≡◌, ◌∙◌, ap, ap₂, sym, arith, List, [], ◌∷◌, ℤ, ℕ, length, true, Result, Err}
 use mir.Syntax.{w64}
 use mir.Val.{to_z, of_z}
 use mir.Facts.{to_z-of_z}
@@ -36,7 +36,7 @@ mean_read z h = to_z-of_z (small_fits z (omega (arith, value_size z h)))
 pub wear_in : (a : ToolMeasurement) (f : Found) {s : Tests} → s ≡ found_tests a f → first (record_rules s) ≡ 0 → wear_range f.wear ≡ true
 wear_in a f e z = (tests_passed (found_tests a f) (ap (λ (s : Tests). first (record_rules s)) (sym e) ∙ z)).range
 
-module _ (t : ToolReadings) (area results : List ℤ) where
+module _ (t : ToolReadings) (area results : List ℤ) (place : ℕ) where
   abbrev records : ToolRecords
   records = tool_read (held area) (tool_at t)
 
@@ -56,9 +56,9 @@ module _ (t : ToolReadings) (area results : List ℤ) where
 
     pub tool_refused : length area ≡ area_length → first (arguments_of (tool t)) ≡ 0 → {s : Tests} → s ≡ found_tests a f → (e : Result Evaluation Refusal)
         → {r : Refusal} → e ≡ Err r → number r ≡ first (record_rules s)
-        → measured_as (answered_by e area) (results_left e results) ≡ measured_on area (tool t) results 0
+        → measured_as (answered_by e area) (results_left e results place) ≡ measured_on area (tool t) results place
     tool_refused whole passed tests e is n =
-        refused_by_records area (tool t) results whole passed e is (n ∙ ap (λ (s : Tests). first (record_rules s)) (tests_are tests))
+        refused_by_records area (tool t) results place whole passed e is (n ∙ ap (λ (s : Tests). first (record_rules s)) (tests_are tests))
 
     -- what is written is what the call changes
     changes_are : {k : Kind} {w : Wear} → k ≡ tool_kind_of a → w ≡ with_wear_on (on_length k a.probing.axis) r.wear f.wear
@@ -69,8 +69,8 @@ module _ (t : ToolReadings) (area results : List ℤ) where
     pub tool_done : length area ≡ area_length → first (arguments_of (tool t)) ≡ 0 → {s : Tests} → s ≡ found_tests a f → first (record_rules s) ≡ 0
         → {k : Kind} {w : Wear} → k ≡ tool_kind_of a → w ≡ with_wear_on (on_length k a.probing.axis) r.wear f.wear → {v : Evaluation} {new after : List ℤ}
         → v ≡ tool_evaluation a f → new ≡ renewed_all area (write means a.mv f.decision.mean ∷ write tools a.tool w ∷ [])
-        → after ≡ array_after results 0 (tool_filled a f) → measured_as (answered 0 v new) after ≡ measured_on area (tool t) results 0
+        → after ≡ array_after results place (tool_filled a f) → measured_as (answered 0 v new) after ≡ measured_on area (tool t) results place
     tool_done whole passed tests allowed kind w v n e =
-        measured_done area (tool t) results whole passed (ap (λ (s : Tests). first (record_rules s)) (sym (tests_are tests)) ∙ allowed)
+        measured_done area (tool t) results place whole passed (ap (λ (s : Tests). first (record_rules s)) (sym (tests_are tests)) ∙ allowed)
         (v ∙ ap₂ tool_evaluation given found_is) (n ∙ ap (renewed_all area) (changes_are kind w))
-        (e ∙ ap₂ (λ (a : ToolMeasurement) (f : Found). array_after results 0 (tool_filled a f)) given found_is)
+        (e ∙ ap₂ (λ (a : ToolMeasurement) (f : Found). array_after results place (tool_filled a f)) given found_is)

@@ -17,7 +17,6 @@ use area::{AREA, MEANS, TOOLS};
 use floats::Raw;
 use found_tests::tool_tests;
 use layout::put_record;
-use measuring::answered;
 use package::arguments::ToolMeasurement;
 use package::found::Evaluation;
 use package::records::Wear;
@@ -40,16 +39,17 @@ fn put_tool(area: &mut [i32; AREA], a: ToolMeasurement<i64>, mean: i64, w: Wear)
     put_record(area, TOOLS, a.tool, &[w.radius, w.length]);
 }
 
-// Measures by arguments that passed their tests, whatever raws they came from; the 42 numbers of a measurement that is done are written to the results where they
-// have room for them.
+// Measures by arguments that passed their tests, whatever raws they came from; the 42 numbers of a measurement that is done are written to the results from
+// the place on, where they have room for them.
 #[inline(always)]
 fn measure_passed(
     area: &mut [i32; AREA],
     p: PassedTool,
     results: &mut [i32],
+    place: usize,
 ) -> Result<Evaluation, Refusal>
     ensures { (t : ToolReadings) → p.given ≡ tool_at t → first (arguments_of (tool t)) ≡ 0
-        → measured_as (answered_by result area.new) (results_left result results.new) ≡ measured_on area.old (tool t) results.old 0 }
+        → measured_as (answered_by result area.new) (results_left result results.new place) ≡ measured_on area.old (tool t) results.old place }
 {
     let a = p.given;
     let r = tool_records(area, a);
@@ -65,35 +65,21 @@ fn measure_passed(
         passed: p,
         found: f,
     };
-    put_numbers(done, results);
+    put_numbers(done, results, place);
     Ok(f.evaluated(a))
 }
 
-// Measures on an area of the right length.
+// Measures; the 42 numbers of a measurement that is done are written to the results from the place on, where they have room for them.
 #[inline(always)]
-fn measure<T: Raw>(
+pub fn measure_tool<T: Raw>(
     area: &mut [i32; AREA],
     a: ToolMeasurement<T>,
     results: &mut [i32],
+    place: usize,
 ) -> Result<Evaluation, Refusal>
-    ensures { measured_as (answered_by result area.new) (results_left result results.new)
-        ≡ measured_on area.old (tool (tool_by T.reading a)) results.old 0 }
+    ensures { measured_as (answered_by result area.new) (results_left result results.new place)
+        ≡ measured_on area.old (tool (tool_by T.reading a)) results.old place }
 {
     let p = passed_tool(a)?;
-    measure_passed(area, p, results)
-}
-
-// Measures; the 42 numbers are written to the front of the results where they have room for them.
-pub fn evaluate_tool<T: Raw>(
-    area: &mut [i32],
-    a: ToolMeasurement<T>,
-    results: &mut [i32],
-) -> Result<Evaluation, Refusal>
-    ensures { measured_as (answered_by result area.new) results.new
-        ≡ measured_on area.old (tool (tool_by T.reading a)) results.old 0 }
-{
-    let Some(whole) = area.as_mut_array::<AREA>() else {
-        return Err(Refusal::WrongArea);
-    };
-    answered(measure(whole, a, results), results)
+    measure_passed(area, p, results, place)
 }

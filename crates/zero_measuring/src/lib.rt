@@ -17,7 +17,6 @@ use area::{AREA, OFFSETS};
 use evaluation::evaluated;
 use floats::Raw;
 use layout::put_record;
-use measuring::answered;
 use package::arguments::ZeroMeasurement;
 use package::found::Evaluation;
 use package::records::Offset;
@@ -37,15 +36,16 @@ fn put_zero(area: &mut [i32; AREA], a: ZeroMeasurement<i64>, o: Offset)
     put_record(area, OFFSETS, a.offset, &o.axes);
 }
 
-// Measures by arguments that passed their tests, whatever raws they came from; the 42 numbers of a measurement that is done are written to the results where they
-// have room for them.
+// Measures by arguments that passed their tests, whatever raws they came from; the 42 numbers of a measurement that is done are written to the results from
+// the place on, where they have room for them.
 fn measure_passed(
     area: &mut [i32; AREA],
     p: PassedZero,
     results: &mut [i32],
+    place: usize,
 ) -> Result<Evaluation, Refusal>
     ensures { (t : ZeroReadings) → p.given ≡ zero_at t → first (arguments_of (zero t)) ≡ 0
-        → measured_as (answered_by result area.new) (results_left result results.new) ≡ measured_on area.old (zero t) results.old 0 }
+        → measured_as (answered_by result area.new) (results_left result results.new place) ≡ measured_on area.old (zero t) results.old place }
 {
     let a = p.given;
     let f = find(zero_records(area, a), p);
@@ -55,35 +55,21 @@ fn measure_passed(
         passed: p,
         measured: f.measured,
     };
-    put_numbers(done, results);
+    put_numbers(done, results, place);
     Ok(evaluated(f.measured))
 }
 
-// Measures on an area of the right length.
+// Measures; the 42 numbers of a measurement that is done are written to the results from the place on, where they have room for them.
 #[inline(always)]
-fn measure<T: Raw>(
+pub fn measure_zero<T: Raw>(
     area: &mut [i32; AREA],
     a: ZeroMeasurement<T>,
     results: &mut [i32],
+    place: usize,
 ) -> Result<Evaluation, Refusal>
-    ensures { measured_as (answered_by result area.new) (results_left result results.new)
-        ≡ measured_on area.old (zero (zero_by T.reading a)) results.old 0 }
+    ensures { measured_as (answered_by result area.new) (results_left result results.new place)
+        ≡ measured_on area.old (zero (zero_by T.reading a)) results.old place }
 {
     let p = passed_zero(a)?;
-    measure_passed(area, p, results)
-}
-
-// Measures; the 42 numbers are written to the front of the results where they have room for them.
-pub fn evaluate_zero<T: Raw>(
-    area: &mut [i32],
-    a: ZeroMeasurement<T>,
-    results: &mut [i32],
-) -> Result<Evaluation, Refusal>
-    ensures { measured_as (answered_by result area.new) results.new
-        ≡ measured_on area.old (zero (zero_by T.reading a)) results.old 0 }
-{
-    let Some(whole) = area.as_mut_array::<AREA>() else {
-        return Err(Refusal::WrongArea);
-    };
-    answered(measure(whole, a, results), results)
+    measure_passed(area, p, results, place)
 }

@@ -12,7 +12,7 @@ use Rattle.job_lines.proofs.run_line.Goals as goal
 
 pub returns-in-T : goal.returns-in-T
 unfolding said_in
-returns-in-T c = rw (c.in-Some.is, c.in-T.is) (ap (λ (m : Measured). m.called) (rw c.tool_of.ensures at c.evaluate_tool.ensures))
+returns-in-T c = rw (c.in-Some.is, c.in-T.is) (ap (λ (m : Measured). m.called) (rw c.tool_of.ensures at c.evaluate.ensures))
 
 pub returns-in-Z : goal.returns-in-Z
 unfolding said_in
@@ -21,8 +21,8 @@ returns-in-Z c =
     let front : c.unwrap.result.now ≡ take 13 v = search rules in
     let given = c.zero_of.ensures ∙ ap zero_of front ∙ zero_front v in
     rw (c.in-Some.is, c.in-Z.is)
-    (ap (λ (m : Measured). m.called) c.evaluate_zero.ensures ∙ ap (λ (a : ZeroMeasurement). called c.args.area.now (measure_zero a lent 0)) given)
+    (ap (λ (m : Measured). m.called) c.evaluate-in-Z.ensures ∙ ap (λ (a : ZeroMeasurement). called c.args.area.now (measure_zero a lent 0)) given)
 
 pub returns-in-G : goal.returns-in-G
 unfolding said_in
-returns-in-G c = rw (c.in-Some.is, c.in-G.is) (ap (λ (m : Measured). m.called) (rw c.reported_of.ensures at c.evaluate_tool-in-G.ensures))
+returns-in-G c = rw (c.in-Some.is, c.in-G.is) (ap (λ (m : Measured). m.called) (rw c.reported_of.ensures at c.evaluate-in-G.ensures))

@@ -1,28 +1,38 @@
--- A measurement without room is turned away; one that has it is handed on with the results from the place on.
-use Rattle.std.proofs.Common.{◌≡◌, true, false, ap, ◌∙◌, sym, rules, arith, ℕ, ◌+◌, length, List, Option, Some, eq-eqb, ℤ}
-use lib.Dec.{leb}
-use Rattle.lists.specs.Copied.{part_end, put_end}
-use Rattle.measuring.specs.Reply as measuring
-use Rattle.measuring.specs.Reply.{exported_of}
-use Rattle.measuring.specs.ReplyLaws.{Asked, turned_away, handed_part}
+-- A measurement is turned away by what it is lent, or measured.
+use Rattle.std.proofs.Common.{◌≡◌, Bool, true, false, refl, ◌∙◌, sym, ℕ, eqb, length, List, Option, Some, None, ℤ, is_some, option_map}
+use Rattle.std.proofs.lemmas.Result.{err_from_is_err_and}
+use Rattle.package.specs.RefusalLaws.{number_some}
+use Rattle.rules.specs.Refusals.{first}
 use Rattle.area.specs.Table.{area_length}
+use Rattle.measuring.specs.Reply as measuring
+use Rattle.measuring.specs.Reply.{lent_rules, reply, undecided, exported_of}
+use Rattle.measuring.specs.ReplyLaws.{Asked, turned_away, handed_on, replied_by}
 use Rattle.lent_measuring.proofs.measure.Goals as goal
 
-abbrev asked : measuring.Measurement → (area results : List ℤ) → ℕ → Asked
-asked m area results place = record { measurement = m; area = area; results = results; place = place }
+module _ {M : Type 0} (said : M → measuring.Measurement) (area results : List ℤ) (place : ℕ) where
+  abbrev asked : M → Asked
+  asked m = record { measurement = said m; area = area; results = results; place = place }
 
-pub returns-then-not-has_room : goal.returns-then-not-has_room
-returns-then-not-has_room g c =
+  turned : (m : Option M) {n : ℕ} → n ≡ first (lent_rules (length area) (is_some m) (length results) place) → (n ≡ 0 → ⊥)
+      → reply (undecided n) area results ≡ exported_of area (option_map said m) results place
+  turned (Some m) e z = turned_away (asked m) true e z
+  turned None {n} e z = go (eqb (length area) area_length) refl
+    where
+      go : (b : Bool) → eqb (length area) area_length ≡ b → reply (undecided n) area results ≡ exported_of area None results place
+      go true q = rw (e, q)
+      go false q = rw (e, q)
+
+pub returns-in_err-lent : goal.returns-in_err-lent
+returns-in_err-lent g c =
     let s = c.args in
-    let room : leb (s.place + 42) (length s.results.now) ≡ false = sym c.has_room.ensures ∙ c.if-not-has_room.true in
-    rw c.in-Some.is
-    (turned_away (asked (g.M.Measurement.said c.in-Some.m) s.area.now s.results.now s.place) true
-    (rw (eq-eqb (length s.area.now) area_length c.if-area-ne-AREA.false, room)) (λ z. omega (arith, z)))
+    let r = err_from_is_err_and c.from_residual.result c.from_residual.ensures.1 in
+    let e = rw c.is_some.ensures at c.in_err-lent.ensures in
+    rw (r.1, r.2) (turned g.M.Measurement.said s.area.now s.results.now s.place s.m e (number_some c.in_err-lent.field-0.0))
 
 pub returns : goal.returns
 returns g c =
     let s = c.args in
-    let room : leb (s.place + 42) (length s.results.now) ≡ true = sym c.has_room.ensures ∙ c.if-not-has_room.false in
-    rw (c.in-Some.is, put_end s.results.now c.evaluate.new.results s.place)
-    (handed_part s.area.now (g.M.Measurement.said c.in-Some.m) s.results.now s.place room c.if-area-ne-AREA.false c.evaluate.result c.evaluate.new.area
-    c.evaluate.new.results (rw (part_end s.results.now s.place) at c.evaluate.ensures))
+    let passed = rw (c.is_some.ensures, c.unwrap.ensures) at c.in_ok-lent.ensures in
+    rw c.unwrap.ensures
+    (replied_by c.evaluate.result c.evaluate.new.area c.evaluate.new.results
+    ∙ handed_on (asked g.M.Measurement.said s.area.now s.results.now s.place c.unwrap.result) true (sym passed) c.evaluate.ensures)

@@ -1,14 +1,17 @@
--- The front is as long as the numbers, so that writing them there is writing them at place 0.
-use Rattle.std.proofs.Common.{◌≡◌, ◌++◌, ◌≤◌, List, ℤ, ap, ◌∙◌, length, drop, rules, le-leb}
+-- The part is as long as the numbers, so that what lies after it is what lies after them.
+use Rattle.std.proofs.Common.{◌≡◌, true, List, ℤ, ℕ, ◌+◌, ◌-◌, ap, ◌∙◌, sym, arith, length, take, drop, append_assoc, rules}
+use lib.Dec.{leb}
+use borrow.Rule.Slice.PartMut.{put_mid, Post-is}
 use Rattle.lists.specs.Written.{written}
-use Rattle.rules.specs.Answers.{array_after}
 use Rattle.results.proofs.put_numbers.Goals as goal
 
-front_written : (array numbers : List ℤ) → 42 ≤ length array → length numbers ≡ 42 → numbers ++ drop 42 array ≡ array_after array 0 numbers
+part_put : (array : List ℤ) (place : ℕ) (numbers : List ℤ) → length numbers ≡ 42 → put_mid place (place + 42 - place) array numbers ≡ written array place numbers
 unfolding written
-front_written array numbers h n = rw (le-leb 42 (length array) h, n)
+part_put array place numbers n = rw (Post-is place (place + 42) array (omega arith), n) (sym (append_assoc (take place array) numbers (drop (place + 42) array)))
 
-pub returns-in-Some : goal.returns-in-Some
-returns-in-Some g c =
+pub returns-then-has_room : goal.returns-then-has_room
+returns-then-has_room g c =
+    let s = c.args in
+    let room : leb (s.place + 42) (length s.results.now) ≡ true = sym c.has_room.ensures ∙ c.if-has_room.true in
     let n : length c.numbers.result ≡ 42 = search rules in
-    front_written c.args.results.now c.numbers.result (search (rules, c.in-Some.ensures)) n ∙ ap (array_after c.args.results.now 0) c.numbers.ensures
+    rw (room, c.copy_from_slice.ensures.after) (part_put s.results.now s.place c.numbers.result n ∙ ap (written s.results.now s.place) c.numbers.ensures)

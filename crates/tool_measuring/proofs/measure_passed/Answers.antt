@@ -8,7 +8,7 @@ use Rattle.tool_measuring.proofs.measure_passed.Goals as goal
 pub returns-in_err-allowed : goal.returns-in_err-allowed
 returns-in_err-allowed c = λ t given passed.
     let s = c.args in
-    tool_refused t s.area.now s.results.now given c.tool_records-r.ensures c.find-f.ensures (omega (arith, c.told-area)) passed c.tool_tests.ensures _ (search rules)
+    tool_refused t s.area.now s.results.now s.place given c.tool_records-r.ensures c.find-f.ensures (omega (arith, c.told-area)) passed c.tool_tests.ensures _ (search rules)
     c.in_err-allowed.ensures
 
 pub wears_left-requires : goal.wears_left-requires
@@ -22,6 +22,6 @@ returns c = λ t given passed.
     let s = c.args in
     let f = c.find-f.result.found in
     let read : to_z w64 (of_z w64 f.wear) ≡ f.wear = search rules in
-    tool_done t s.area.now s.results.now given c.tool_records-r.ensures c.find-f.ensures (omega (arith, c.told-area)) passed c.tool_tests.ensures
+    tool_done t s.area.now s.results.now s.place given c.tool_records-r.ensures c.find-f.ensures (omega (arith, c.told-area)) passed c.tool_tests.ensures
     (sym c.in_ok-allowed.ensures) s.p.named (rw read at c.wears_left.ensures) c.evaluated.ensures
     (rw (mean_read f.decision.mean c.find-f.result.small.decision.mean) at c.put_tool.ensures) c.put_numbers.ensures

@@ -3,12 +3,12 @@ use Rattle.std.proofs.Common.{sym, arith, rules}
 use Rattle.package.specs.Given.{zero_by}
 use Rattle.measuring.specs.Reply.{zero}
 use Rattle.measuring.specs.ReplyLaws.{refused_by_arguments}
-use Rattle.zero_measuring.proofs.measure.Goals as goal
+use Rattle.zero_measuring.proofs.measure_zero.Goals as goal
 
 pub returns-in_err-p : goal.returns-in_err-p
 returns-in_err-p g c =
     let s = c.args in
-    refused_by_arguments s.area.now (zero (zero_by g.T.Raw.reading s.a)) s.results.now (omega (arith, c.told-area)) _ (search rules) c.in_err-p.ensures.refusal
+    refused_by_arguments s.area.now (zero (zero_by g.T.Raw.reading s.a)) s.results.now s.place (omega (arith, c.told-area)) _ (search rules) c.in_err-p.ensures.refusal
 
 pub returns : goal.returns
 returns g c = c.measure_passed.ensures (zero_by g.T.Raw.reading c.args.a) c.in_ok-p.ensures.given (sym c.in_ok-p.ensures.refusal)
