@@ -32,6 +32,7 @@ fn calibrate_passed(area: &mut [i32; AREA], p: PassedCalibration) -> Result<(), 
 }
 
 // Calibrates one direction of a probe, by a whole position or a reading.
+#[inline(always)]
 pub fn calibrate<T: Raw>(area: &mut [i32], a: Calibration<T>) -> Result<(), Refusal>
     ensures { unmeasured (refusal_in result) area.new ≡ called area.old (calibrate_reading (calibration_by T.reading a)) }
 {

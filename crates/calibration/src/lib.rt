@@ -36,6 +36,7 @@ fn new_trigger(p: PassedCalibration) -> i64
 }
 
 // Calibrates the direction of a trigger, of a probe with a status.
+#[inline(always)]
 pub fn calibrate_direction(
     trigger: i32,
     status: u8,

@@ -32,6 +32,7 @@ fn limits_ok(a: Calibration<i64>) -> bool
 
 // The first refusal that what it is given gives, or what passed.
 #[tactic(auto, using(rules::specs::WayLaws::way_tested), unfolding(rules::specs::Calibration::calibration_arguments_with))]
+#[inline(always)]
 pub fn passed_calibration<T: Raw>(a: Calibration<T>) -> Result<PassedCalibration, Refusal>
     ensures refusal { let t = calibration_by T.reading a in refusal_in result ≡ first (calibration_arguments_with (good_calibration t) (calibration_at t)) }
     ensures given { IfOk result (λ p. p.given ≡ calibration_at (calibration_by T.reading a)) }

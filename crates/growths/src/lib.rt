@@ -10,6 +10,7 @@ use package::found::{Form, Kind};
 use sizes::{MeasuredSizes, pair_on};
 
 // Whether axis n of the offset is corrected.
+#[inline(always)]
 fn corrects_on(k: Kind, a: Probing, n: i64) -> bool
     ensures { result ≡ corrects k a n }
 {
@@ -20,6 +21,7 @@ fn corrects_on(k: Kind, a: Probing, n: i64) -> bool
 }
 
 // The h by which axis n of the offset grows: a plane's by twice its deviation, a pair's by its shift.
+#[inline(always)]
 pub fn growth_of(k: Kind, a: Probing, s: MeasuredSizes, n: i64) -> i64
     ensures { (result ≡ growth k a s.sizes n) × (nat_abs result ≤ 100000000) }
 {

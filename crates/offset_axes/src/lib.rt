@@ -16,6 +16,7 @@ use signed::{in_range, magnitude};
 use sizes::MeasuredSizes;
 
 // Whether the growth of axis n keeps to TSA, which is doubled for h. No call of a user.
+#[inline(always)]
 pub fn growth_ok(k: Kind, a: ZeroMeasurement<i64>, s: MeasuredSizes, n: i64) -> bool
     requires { nat_abs a.tsa ≤ 1000000 }
     ensures { result ≡ within_twice_tsa a (growth k a.probing s.sizes n) }
@@ -24,6 +25,7 @@ pub fn growth_ok(k: Kind, a: ZeroMeasurement<i64>, s: MeasuredSizes, n: i64) -> 
 }
 
 // The number of an offset on an axis.
+#[inline(always)]
 pub fn stored(o: Offset, axis: Axis) -> i32
     ensures { result ≡ axis_of o (axis_number axis) }
 {
@@ -50,6 +52,7 @@ fn number_of(axis: Axis) -> i64
 }
 
 // The number v of an offset on an axis, after its growth.
+#[inline(always)]
 pub fn axis_left(v: i32, k: Kind, a: Probing, s: MeasuredSizes, axis: Axis) -> i64
     ensures { result ≡ v +ℤ growth k a s.sizes (axis_number axis) }
 {
@@ -57,6 +60,7 @@ pub fn axis_left(v: i32, k: Kind, a: Probing, s: MeasuredSizes, axis: Axis) -> i
 }
 
 // Whether an axis stays in range.
+#[inline(always)]
 pub fn left_ok(o: Offset, k: Kind, a: Probing, s: MeasuredSizes, axis: Axis) -> bool
     ensures { result ≡ offset_range (axis_of o (axis_number axis) +ℤ growth k a s.sizes (axis_number axis)) }
 {

@@ -38,6 +38,7 @@ fn put_zero(area: &mut [i32; AREA], a: ZeroMeasurement<i64>, o: Offset)
 
 // Measures by arguments that passed their tests, whatever raws they came from; the 42 numbers of a measurement that is done are written to the results from
 // the place on, where they have room for them.
+#[inline(always)]
 fn measure_passed(
     area: &mut [i32; AREA],
     p: PassedZero,
