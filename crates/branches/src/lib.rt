@@ -8,7 +8,7 @@ use package::arguments::Limits;
 use package::found::Branch;
 use signed::magnitude;
 
-// The branch, by whether a mean is named, what its new value would be, and D. No call of a user.
+// The branch, by whether a mean is named, what its new value would be, and D: side by side and in no struct, as the rule has them. No call of a user.
 #[tactic(auto, unfolding(rules::specs::Tool::branch_of))]
 pub fn branch_of(l: Limits, named: bool, next: i64, d: i64) -> Branch
     requires { (nat_abs next ≤ 1000000000) × (nat_abs d ≤ 1000000000) }

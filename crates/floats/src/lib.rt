@@ -19,7 +19,7 @@ use package::found::{Form, Kind};
 pub trait Raw: Copy {
     ghost reading: { Self → Reading };
 
-    // The position that it gives on an axis, by whether it is used; none where a used float is not good.
+    // The position that it gives on an axis, by whether it is used; none where a used float is not good. The axis is a number, since that of an unused one may be any.
     fn position(self, used: bool, axis: i64) -> Option<i64>
         ensures { result ≡ reading_in used (reading self) axis };
 }
@@ -101,7 +101,7 @@ pub fn float_of_bits(b: u32) -> f32
     f32::from_bits(b)
 }
 
-// The float of a report on an axis.
+// The float of a report on an axis by its number: z on every axis but 1 and 2.
 pub fn picked(f: Report, axis: i64) -> f32
     ensures { result ≡ rules.picked f axis }
 {
@@ -135,7 +135,8 @@ fn uses_third(k: Kind) -> bool
     matches!(k.form, Form::Double)
 }
 
-// The positions that the raws of a measurement give; none where a used float is not good.
+// The positions that the raws of a measurement give; none where a used float is not good. Kind and arguments stand side by side, since a kind's number has a meaning of
+// its own in either way of measuring.
 pub fn positions_of<T: Raw>(k: Kind, a: Probing, q: Raws<T>) -> Option<Raws<i64>>
     ensures { result ≡ readings_in k a (raws_by T.reading q) }
 {

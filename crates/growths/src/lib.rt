@@ -9,7 +9,7 @@ use package::arguments::Probing;
 use package::found::{Form, Kind};
 use sizes::{MeasuredSizes, pair_on};
 
-// Whether axis n of the offset is corrected.
+// Whether axis n of the offset is corrected. By the number here and below, since every number has an answer.
 #[inline(always)]
 fn corrects_on(k: Kind, a: Probing, n: i64) -> bool
     ensures { result ≡ corrects k a n }

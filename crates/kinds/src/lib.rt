@@ -18,7 +18,7 @@ use signed::in_range;
 // The greatest number of a kind with tool offset.
 const GREATEST_KIND: i64 = 4;
 
-// A surface that is touched: the way in which it is touched, and the number of its raw.
+// A surface that is touched: the way in which it is touched, and the number of its raw, as the rules have it.
 #[derive(Clone, Copy)]
 pub struct Touch {
     pub way: Way,
@@ -48,7 +48,7 @@ pub enum Surfaces {
     Pairs(Both),
 }
 
-// The kind of a number with tool offset; a plane where there is none.
+// The kind of a number with tool offset; a plane where there is none, as the rules have it.
 pub fn kind_of(n: i64) -> Kind
     ensures { result ≡ tool_kind n }
 {
@@ -62,7 +62,7 @@ pub fn kind_of(n: i64) -> Kind
     Kind { form, inside }
 }
 
-// The same, where its number is one.
+// The same, where its number is one. Not TryFrom, since with zero offset the kinds have other numbers.
 #[inline(always)]
 pub fn tool_kind(n: i64) -> Result<Kind, Refusal>
     ensures { result ≡ known (tool_kind_number n) (tool_kind n) }

@@ -19,7 +19,7 @@ use package::refusals::Refusal;
 use tool_measuring::measure_tool;
 use zero_measuring::measure_zero;
 
-// A measurement of either way.
+// A measurement of either way. Its results and the place in them stand side by side, as C lends them.
 pub trait Measurement: Copy {
     ghost said: { Self → measuring.Measurement };
 

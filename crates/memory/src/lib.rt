@@ -18,7 +18,7 @@ use package::records::Memory;
 use package::refusals::Refusal;
 use records::{decode, save_memory};
 
-// Writes the values of 40 bytes from a place on.
+// Writes the values of 40 bytes from a place on, which stands beside the area as it does in layout.
 // An index, since an array's `map` took ten times as long, and the closure of `from_fn` needs clauses longer than the loop.
 fn write_values(area: &mut [i32], at: usize, bytes: &[u8])
     requires { (at + 20 ≤ length area.old) × (length bytes.now ≡ 40) }

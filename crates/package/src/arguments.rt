@@ -1,4 +1,4 @@
-// What the calls are given. At each touch a T is read: a whole position, or a reading.
+// What the calls are given. At each touch a T is read: a whole position, or a reading. Kinds, axes and directions are numbers, any at all, until they are tested.
 ghost use Rattle.std.specs.Prelude.{◌≡◌};
 ghost use Rattle.package.specs.Given.{calibration_with, tool_with, zero_with};
 

@@ -4,7 +4,7 @@ ghost use Rattle.package.specs.Numbers.{branch_number, verdict_number};
 
 use crate::records::{Offset, Probe, Wear};
 
-// The branch of a measurement with zero offset.
+// The branch of a measurement with zero offset: a number beside the enum Branch, none of whose branches it can be.
 pub const ZERO_BRANCH: u32 = 6;
 
 // The verdicts of a measurement, by the paper's numbers.
@@ -110,7 +110,8 @@ pub struct ZeroRecords {
     pub offset: Offset,
 }
 
-// What a measurement comes to: branch, verdict, the deviation of OVR[16] and the correction c.
+// What a measurement comes to: branch, verdict, the deviation of OVR[16] and the correction c. Branch and verdict are numbers, since a call that does not measure
+// answers 0 for both.
 #[derive(Clone, Copy, Debug, Default, PartialEq, Eq)]
 pub struct Evaluation {
     pub branch: u32,

@@ -25,7 +25,7 @@ pub struct Way {
 }
 
 impl Way {
-    // The way of an axis and a direction by their numbers.
+    // The way of an axis and a direction by their numbers, which may be any.
     pub fn named(axis: i64, direction: i64) -> Result<Way, Refusal>
         ensures { WayNamed axis direction result }
     {

@@ -1,4 +1,4 @@
-// The records of a lent area that a call reads.
+// The records of a lent area that a call reads, each by its number: area and number are no one thing, since the number is the caller's.
 #![tactic(auto)]
 
 ghost use Rattle.std.specs.Prelude.{◌≡◌, true, ◌≤◌, ◌<◌, length};

@@ -7,7 +7,7 @@ ghost use Rattle.rules.specs.Refusals.{first};
 ghost use Rattle.rules.specs.Measuring.{record_rules};
 
 use package::found::Tests;
-use package::refusals::{Refusal, refusal_in};
+use package::refusals::Refusal;
 
 // Whether the records allow a measurement, or the first refusal that they give.
 pub fn allowed(t: Tests) -> Result<(), Refusal>
@@ -29,11 +29,4 @@ pub fn allowed(t: Tests) -> Result<(), Refusal>
         return Err(Refusal::LeavesRange);
     }
     Ok(())
-}
-
-// The first refusal that the records give.
-pub fn records_refusal(t: Tests) -> u32
-    ensures { result ≡ first (record_rules t) }
-{
-    refusal_in(allowed(t))
 }

@@ -18,7 +18,7 @@ use package::refusals::Refusal;
 use signed::in_range;
 use tolerance::limits_ok;
 
-// What a measurement with tool offset is given, tested, and what it probes.
+// What a measurement with tool offset is given, tested, and what it probes. A struct beside PassedZero, since its facts are of other rules.
 #[derive(Clone, Copy)]
 pub struct PassedTool {
     pub probed: Probed,

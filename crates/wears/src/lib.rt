@@ -10,7 +10,8 @@ use package::found::{Form, Kind};
 use package::records::Wear;
 use probes::sign_of;
 
-// The h by which a wear grows for a unit of correction: inside kinds add, outside kinds subtract.
+// The h by which a wear grows for a unit of correction: inside kinds add, outside kinds subtract. Axis and direction are numbers here and below, since every number
+// has an answer.
 fn factor_of(k: Kind, direction: i64) -> i64
     ensures { result ≡ factor k direction }
 {
