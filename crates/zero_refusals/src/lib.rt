@@ -12,7 +12,7 @@ ghost use Rattle.kinds.specs.Touches.{known};
 
 use floats::Raw;
 use kind_tests::Probed;
-use kinds::tool_kind;
+use kinds::kind_of;
 use package::arguments::ZeroMeasurement;
 use package::found::Kind;
 use package::limits::{OFFSET_COUNT, TOLERANCE_LIMIT};
@@ -29,15 +29,25 @@ pub struct PassedZero {
     pub ghost passed: { ZeroArgumentsPassed given },
 }
 
-// The kind of a number with zero offset.
+// The kind of a number with zero offset; a plane where there is none, as the rules have it.
+pub fn zero_kind_of(n: i64) -> Kind
+    ensures { result ≡ zero_kind n }
+{
+    match n {
+        100..=104 => kind_of(n - 100),
+        _ => kind_of(0),
+    }
+}
+
+// The same, where its number is one.
 #[inline(always)]
 fn zero_kind(n: i64) -> Result<Kind, Refusal>
     ensures { result ≡ known (zero_kind_number n) (zero_kind n) }
 {
-    match n {
-        100..=104 => tool_kind(n - 100),
-        _ => Err(Refusal::NoSuchNumber),
+    if !in_range(n, 100, 104) {
+        return Err(Refusal::NoSuchNumber);
     }
+    Ok(zero_kind_of(n))
 }
 
 // The arguments tested, with the positions that the raws give.
