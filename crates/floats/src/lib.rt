@@ -19,7 +19,8 @@ use package::found::{Form, Kind};
 pub trait Raw: Copy {
     ghost reading: { Self → Reading };
 
-    // The position that it gives on an axis, by whether it is used; none where a used float is not good. The axis is a number, since that of an unused one may be any.
+    // The position that it gives on an axis, by whether it is used; none where a used float is not good. Flag and axis stand beside it, since an unused one gives 0 on
+    // any axis.
     fn position(self, used: bool, axis: i64) -> Option<i64>
         ensures { result ≡ reading_in used (reading self) axis };
 }

@@ -20,7 +20,8 @@ fn corrects_on(k: Kind, a: Probing, n: i64) -> bool
     }
 }
 
-// The h by which axis n of the offset grows: a plane's by twice its deviation, a pair's by its shift.
+// The h by which axis n of the offset grows: a plane's by twice its deviation, a pair's by its shift. Kind, arguments and sizes stand side by side here and in the tests
+// of an axis, since each may be any.
 #[inline(always)]
 pub fn growth_of(k: Kind, a: Probing, s: MeasuredSizes, n: i64) -> i64
     ensures { (result ≡ growth k a s.sizes n) × (nat_abs result ≤ 100000000) }

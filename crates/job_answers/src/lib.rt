@@ -17,7 +17,7 @@ pub struct Row {
     pub answer: Result<Evaluation, Refusal>,
 }
 
-// Writes a number and the byte behind it from a place on, and answers the next place.
+// Writes a number and the byte behind it from a place on, and answers the next place; a place stands beside the buffer as in decimals.
 fn put_field<N: Decimal>(out: &mut [u8], at: usize, n: N, byte: u8) -> usize
     requires { at + length (field N.text n byte) ≤ length out.old }
     ensures { (result ≡ at + length (field N.text n byte)) × (out.new ≡ written out.old at (field N.text n byte)) }

@@ -26,7 +26,7 @@ pub fn probe_at(area: &[i32; AREA], n: i64) -> Probe
     }
 }
 
-// One empirical or mean value; number 0 names none, and 0 is read.
+// One empirical or mean value; number 0 names none, and 0 is read. It asks the same of any section, since both have theirs.
 fn value_at(area: &[i32; AREA], s: Section, n: i64) -> i16
     requires s_in_bounds { end s ≤ area_length }
     requires n_value { named s n ≡ true }

@@ -31,7 +31,7 @@ fn on_length(k: Kind, axis: i64) -> bool
     }
 }
 
-// One of a tool's two wears.
+// One of a tool's two wears, by a flag, since the rules have it so.
 fn wear_on(w: Wear, length: bool) -> i64
     ensures { (result ≡ wear_on length w) × (nat_abs result ≤ 2147483648) }
 {

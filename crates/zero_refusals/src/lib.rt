@@ -39,7 +39,7 @@ pub fn zero_kind_of(n: i64) -> Kind
     }
 }
 
-// The same, where its number is one.
+// The same, where its number is one; no TryFrom, as in kinds.
 #[inline(always)]
 fn zero_kind(n: i64) -> Result<Kind, Refusal>
     ensures { result ≡ known (zero_kind_number n) (zero_kind n) }
