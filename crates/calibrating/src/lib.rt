@@ -17,7 +17,7 @@ use package::arguments::Calibration;
 use package::refusals::Refusal;
 use probes::place_on;
 
-// Calibrates the direction, where nothing that it is given refuses it.
+// Calibrates the direction, where nothing that it is given refuses it. The record's numbers are reached by their places, as the area has them.
 fn calibrate_passed(area: &mut [i32; AREA], p: PassedCalibration) -> Result<(), Refusal>
     ensures { unmeasured (refusal_in result) area.new ≡ called area.old (calibrate p.given) }
 {

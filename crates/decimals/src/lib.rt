@@ -39,6 +39,7 @@ pub trait Decimal: Copy {
 impl Decimal for u32 {
     ghost text = { decimal };
 
+    // Not by `write!`, of which nothing is known; by an index, since the last digit comes first.
     fn put(self, out: &mut [u8], at: usize) -> usize {
         let end = at + digit_count(self);
         let mut m = self;

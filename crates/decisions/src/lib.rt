@@ -8,7 +8,7 @@ use branches::branch_of;
 use package::arguments::Limits;
 use package::found::{Branch, Decision};
 
-// The decision, of the old mean, what its new value would be, and D. No call of a user.
+// The decision, of the old mean, what its new value would be, and D, side by side as for the branch. No call of a user.
 pub fn decide(l: Limits, named: bool, old: i64, next: i64, d: i64) -> Decision
     requires { (nat_abs next ≤ 1000000000) × (nat_abs d ≤ 1000000000) }
     ensures { result ≡ decided_by l named old next d }

@@ -14,7 +14,8 @@ use package::limits::{VALUE_COUNT, VALUE_GREATEST, VALUE_LEAST};
 use package::refusals::Refusal;
 use signed::in_range;
 
-// An empirical value that may be set, as the area holds it.
+// An empirical value that may be set, as the area holds it. The three settings are functions of one outline, since what each tests and writes is its own; the casts
+// in them stand behind a test, where try_from would bring an Err that no value can meet.
 fn passed_empirical(ev: i64, value: i64) -> Result<i32, Refusal>
     ensures number { refusal_in result ≡ first (empirical_rules ev value) }
     ensures kept { IfOk result (λ v. v ≡ value) }

@@ -100,7 +100,7 @@ fn span(inside: bool, axis: Axis, raws: (i64, i64), set: i64) -> Across
     }
 }
 
-// The set centre of a groove or web, by its axis.
+// The set centre of a groove or web, by its axis: a number, since every one has an answer.
 pub fn single_centre(a: Probing) -> i64
     ensures { (inside : Bool) → Each (λ p. p.set ≡ result) (pairs (kind Single inside) a) }
 {

@@ -78,7 +78,8 @@ pub fn evaluate<M: Measurement>(
     answered(m.measure_on(whole, results, place), results, place)
 }
 
-// Measures where as many arguments were lent as a measurement has, and the 42 numbers have room from the place on.
+// Measures where as many arguments were lent as a measurement has, and the 42 numbers have room from the place on. What is lent is unwrapped behind the test, since
+// the refusals of the area and of the room stand on either side of it.
 pub fn measure<M: Measurement>(
     area: &mut [i32],
     m: Option<M>,
@@ -92,7 +93,7 @@ pub fn measure<M: Measurement>(
     evaluate(area, m.unwrap(), results, place)
 }
 
-// What a measurement with tool offset is lent, where it is 21 numbers.
+// What a measurement with tool offset is lent, where it is 21 numbers. Four functions of two lines: one for all would need a trait with a type for the same with readings.
 pub fn lent_tool(numbers: &[i64]) -> Option<ToolMeasurement<i64>>
     ensures { result ≡ tool_lent numbers.now }
 {

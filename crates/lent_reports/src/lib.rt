@@ -6,7 +6,7 @@ ghost use Rattle.lent_reports.specs.LentReports.{marked, report_at, lent_reading
 
 use package::arguments::{Raws, Reading, Report};
 
-// The report whose X stands at place i.
+// The report whose X stands at place i; no chunks of three, since each raw takes its own.
 fn report_at(floats: &[f32; 12], i: usize) -> Report
     requires { i ≤ 9 }
     ensures { result ≡ report_at floats.now i }
@@ -26,7 +26,7 @@ fn is_marked(reported: u32, bit: u32) -> bool
     reported / bit % 2 == 1
 }
 
-// A raw that is a report, or whole.
+// A raw that is a report, or whole: by a flag beside both, as C marks and lends them.
 fn lent_reading(reported: bool, whole: i64, report: Report) -> Reading
     ensures { result ≡ lent_reading reported whole report }
 {

@@ -15,7 +15,7 @@ use package::ways::Axis;
 use signed::{in_range, magnitude};
 use sizes::MeasuredSizes;
 
-// Whether the growth of axis n keeps to TSA, which is doubled for h. No call of a user.
+// Whether the growth of axis n keeps to TSA, which is doubled for h; by the number as `growth_of`. No call of a user.
 #[inline(always)]
 pub fn growth_ok(k: Kind, a: ZeroMeasurement<i64>, s: MeasuredSizes, n: i64) -> bool
     requires { nat_abs a.tsa ≤ 1000000 }
@@ -44,7 +44,7 @@ fn grown(v: i32, by: i64) -> i64
     i64::from(v) + by
 }
 
-// The number of an axis.
+// The number of an axis; a function, so that its clause is said once.
 fn number_of(axis: Axis) -> i64
     ensures { result ≡ axis_number axis }
 {

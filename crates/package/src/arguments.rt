@@ -82,6 +82,7 @@ pub enum Reading {
 }
 
 impl<T: Copy> Calibration<T> {
+    // The same with another raw; a method of each of the three structs, since each has its own fields.
     pub fn with_raw<U>(self, raw: U) -> Calibration<U>
         ensures { result ≡ calibration_with self raw }
     {

@@ -35,7 +35,8 @@ fn stores_named(tool: i64, ev: i64, mv: i64) -> bool
     in_range(tool, 1, TOOL_COUNT) & in_range(ev, 0, VALUE_COUNT) & in_range(mv, 0, VALUE_COUNT)
 }
 
-// The arguments of a measurement, with the positions that its raws give, or the first refusal that they give.
+// The arguments of a measurement, with the positions that its raws give, or the first refusal that they give. A function beside passed_zero, since most of what each
+// tests is its own.
 #[tactic(auto, unfolding(rules::specs::Tool::tool_arguments_with))]
 #[inline(always)]
 pub fn passed_tool<T: Raw>(a: ToolMeasurement<T>) -> Result<PassedTool, Refusal>

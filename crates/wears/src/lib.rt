@@ -47,7 +47,7 @@ pub fn wear_left(w: Wear, k: Kind, a: Probing, c: i64) -> i64
     wear_on(w, on_length(k, a.axis)) + factor_of(k, a.direction) * c
 }
 
-// A tool's wears with the one that is corrected replaced. No call of a user.
+// A tool's wears with the one that is corrected replaced; a cast, since try_from would bring an Err that no wear in range can meet. No call of a user.
 pub fn wears_left(w: Wear, k: Kind, a: Probing, v: i64) -> Wear
     requires { wear_range v ≡ true }
     ensures { result ≡ with_wear_on (on_length k a.axis) w v }

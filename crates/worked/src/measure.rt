@@ -99,7 +99,8 @@ impl<'a> Measuring<'a> {
         Ok(self.measure_readings(lent, floats.as_slice(), marks, array))
     }
 
-    // An array and the place in it, as C lends them; they stand beside the area, since a row of a room has an array of its own length.
+    // The letter is matched here and below, since what T and Z are lent is of two types. An array and the place in it, as C lends them; they stand beside the area,
+    // since a row of a room has an array of its own length.
     fn measure(
         self,
         lent: &mut Lent,

@@ -26,7 +26,7 @@ pub struct Named<'a>(pub &'a str, pub Option<&'a [i32]>);
 #[derive(Clone, Copy)]
 pub struct Ends<'a>(pub &'a str, pub &'a [i32]);
 
-// The bits of a probe's status and the number of directions calibrated.
+// The bits of a probe's status and the number of directions calibrated, as C is answered.
 #[derive(Clone, Copy)]
 pub struct Directions(pub Status);
 
