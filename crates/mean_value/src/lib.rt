@@ -7,7 +7,8 @@ ghost use Rattle.rules.specs.Mean.{mean_step};
 
 use signed::rounded_quotient;
 
-// The mean m after one more deviation d with weighting factor k: less (m - d) / k rounded, halves away from zero. No call of a user.
+// The mean m after one more deviation d with weighting factor k: less (m - d) / k rounded, halves away from zero. Its bounds and those of decisions and branches stand
+// in clauses, since they are of other numbers. No call of a user.
 pub fn mean_step(m: i64, d: i64, k: i64) -> i64
     requires m_bound { (nat_abs m ≤ 100000000) × (nat_abs d ≤ 100000000) }
     requires k_value { within (pos 1) (pos 1000) k ≡ true }
