@@ -11,9 +11,6 @@ use Rattle.area.proofs.Laws.{wide, nearest_is, nearest_in_range}
 use Rattle.area.proofs.status_from.Goals as goal
 use Rattle.area.proofs.status_from.Goals.{After-nearest_in}
 
-pub overflow_cast-v : goal.overflow_cast-v
-overflow_cast-v c = wide c.ranges.v
-
 small : (z : ℤ) → pos 0 ≤ℤ z → z ≤ℤ pos 255 → nat_abs z ≤ 255
 small = parts _ (λ a b. simp ints (omega arith))
 
@@ -26,9 +23,3 @@ pub overflow_cast-result : goal.overflow_cast-result
 overflow_cast-result c =
     let b = in_byte c in
     rw (read c.nearest_in.result c.nearest_in.type_inv) (yes_non_neg b.0, record { fits = omega (arith, small c.nearest_in.result b.0 b.1) })
-
-pub returns : goal.returns
-returns c =
-    ap nat_abs
-    (read c.nearest_in.result c.nearest_in.type_inv ∙
-    nearest_is c.ranges.v (pos 0) (pos 255) refl refl c.nearest_in.ensures)

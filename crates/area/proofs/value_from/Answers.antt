@@ -8,9 +8,6 @@ use Rattle.area.proofs.Laws.{wide, nearest_is, nearest_in_range}
 use Rattle.area.proofs.value_from.Goals as goal
 use Rattle.area.proofs.value_from.Goals.{After-nearest_in}
 
-pub overflow_cast-v : goal.overflow_cast-v
-overflow_cast-v c = wide c.ranges.v
-
 narrow : (c : After-nearest_in) → Cast w16 c.nearest_in.result
 narrow c =
     casts w16 (minus 32768) (pos 32767) (record { sfits = c.nearest_in.type_inv }) tt tt

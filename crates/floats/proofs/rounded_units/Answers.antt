@@ -9,6 +9,3 @@ pub returns : goal.returns
 returns c =
     let m = c.args.m in
     (halved (8388608 + m % 8388608) (150 - m / 8388608), omega (arith, shr_le (20000 * (8388608 + m % 8388608)) (150 - m / 8388608)))
-
-pub overflow_add-result : goal.overflow_add-result
-overflow_add-result c = let m = c.args.m in omega (arith, shr_le (20000 * (8388608 + m % 8388608)) (150 - m / 8388608))

@@ -54,6 +54,3 @@ returns c =
     let p = (goal.at.returns c).After-rounded_units-n in
     ap Some ((negated_runs p).value ∙ less_than_0 (n p))
     ∙ sym (value p ∙ rw (le-leb 2147483648 (b p) c.if-b-lt2147483648.false))
-
-pub overflow_sub-result : goal.overflow_sub-result
-overflow_sub-result c = search (negated_runs (goal.at.overflow_sub-result c).After-rounded_units-n).asks

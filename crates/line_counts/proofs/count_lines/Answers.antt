@@ -20,13 +20,3 @@ pub overflow_add-n : goal.overflow_add-n
 overflow_add-n c =
     let f = front c.as_chunks.result.0.now c.loop-block.block-index (omega arith) in
     omega (arith, f, c.loop-block.invariant, c.count_block-in-loop-block.ensures, count_le c.args.s.now)
-
-pub loop-block-preserved : goal.loop-block-preserved
-loop-block-preserved c =
-    let f = front c.as_chunks.result.0.now c.loop-block.block-index (omega arith) in
-    omega (arith, f, c.loop-block.invariant, c.count_block-in-loop-block.ensures)
-
-pub returns : goal.returns
-returns c =
-    let e = ap (sum_by ended) (drop_of_length-le c.as_chunks.result.0.now {i = c.loop-block.block-index} (omega arith)) in
-    omega (arith, e, c.loop-block.invariant)

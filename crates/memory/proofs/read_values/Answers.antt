@@ -40,9 +40,6 @@ module _ (c : At-loop-i) where
   inside : section.at + 20 ≤ length area
   inside = rw (c.before.requires.0, c.before.requires.1) at c.before.requires.2
 
-pub loop-i-init : goal.loop-i-init
-loop-i-init c = refl
-
 pub loop-i-preserved : goal.loop-i-preserved
 loop-i-preserved c =
     let l = c.before.before.before.before in

@@ -18,21 +18,6 @@ use Rattle.memory.proofs.write_values.Goals as goal
 twenty : (bytes : List ℕ) → length bytes ≡ 40 → length (words bytes) ≡ 20
 twenty bytes h = length_words 20 bytes h
 
-same : (zs : List ℤ) (at i : ℕ) (bytes : List ℕ) {area : List ℤ} → (at + 20 ≤ length zs) × (length bytes ≡ 40) → i ≤ 20
-    → area ≡ paste zs at (words bytes) i → length area ≡ length zs
-same zs at i bytes h l e = let n = twenty bytes h.1 in ap length e ∙ length-paste zs at (words bytes) i (omega (arith, h.0)) (omega arith)
-
-pub loop-i-init : goal.loop-i-init
-loop-i-init c = paste-zero c.args.area.now c.args.at (words c.args.bytes.now)
-
-pub bounds-area-at : goal.bounds-area-at
-bounds-area-at c =
-    omega (
-      arith,
-      same c.args.area.now c.args.at c.loop-i.i c.args.bytes.now c.requires (omega arith) c.loop-i.invariant,
-      c.requires.0,
-    )
-
 pub loop-i-preserved : goal.loop-i-preserved
 loop-i-preserved c =
     let kept : to_z w32 (of_z w32 c.from.result) ≡ c.decode-v.result = search rules in
@@ -45,9 +30,6 @@ loop-i-preserved c =
       add-one c.loop-i.i,
     )
     (paste-suc c.args.area.now c.args.at (words c.args.bytes.now) c.loop-i.i (pos 0) (omega (arith, c.requires.0)) (omega arith))
-
-pub shape_of-area : goal.shape_of-area
-shape_of-area c = same c.args.area.now c.args.at c.loop-i.i c.args.bytes.now c.requires (omega arith) c.loop-i.invariant
 
 pub returns : goal.returns
 unfolding written

@@ -65,41 +65,11 @@ module _ (c : Start) where
   runs_high : Runs high
   runs_high = run high tt (search (twice_pos c.args.k range.0))
 
-pub overflow_cast-dividend : goal.overflow_cast-dividend
-overflow_cast-dividend c = search (runs_low c).asks
-
-pub overflow_cast-divisor : goal.overflow_cast-divisor
-overflow_cast-divisor c = search (runs_low c).asks
-
-pub overflow_mul-result : goal.overflow_mul-result
-overflow_mul-result c = search (runs_low c.before).asks
-
-pub overflow_sub-result : goal.overflow_sub-result
-overflow_sub-result c = search (runs_low c.before).asks
-
-pub overflow_mul-result-then-n-lt0 : goal.overflow_mul-result-then-n-lt0
-overflow_mul-result-then-n-lt0 c = search (runs_low c.before).asks
-
 pub nonzero_div-result : goal.nonzero_div-result
 nonzero_div-result c = search (runs_low c.before).asks
 
-pub overflow_cast-result : goal.overflow_cast-result
-overflow_cast-result c = search (runs_low c.before).asks
-
-pub overflow_mul-result-2 : goal.overflow_mul-result-2
-overflow_mul-result-2 c = search (runs_high c.before).asks
-
-pub overflow_add-result : goal.overflow_add-result
-overflow_add-result c = search (runs_high c.before).asks
-
-pub overflow_mul-result-3 : goal.overflow_mul-result-3
-overflow_mul-result-3 c = search (runs_high c.before).asks
-
 pub nonzero_div-result-2 : goal.nonzero_div-result-2
 nonzero_div-result-2 c = search (runs_high c.before).asks
-
-pub overflow_cast-result-2 : goal.overflow_cast-result-2
-overflow_cast-result-2 c = search (runs_high c.before).asks
 
 pub returns-then-n-lt0 : goal.returns-then-n-lt0
 returns-then-n-lt0 c =

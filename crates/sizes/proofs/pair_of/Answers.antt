@@ -67,10 +67,6 @@ pub overflow_add-result-2 : goal.overflow_add-result-2
 overflow_add-result-2 c =
     search (middle_runs c.args.x c.args.q (across c.args.p) c.requires _ _ c.surface_of-low.ensures c.surface_of-high.ensures).asks
 
-pub overflow_mul-result : goal.overflow_mul-result
-overflow_mul-result c =
-    search (moved_runs c.args.x c.args.q (across c.args.p) c.requires _ _ c.surface_of-low.ensures c.surface_of-high.ensures).asks
-
 pub overflow_sub-result-2 : goal.overflow_sub-result-2
 overflow_sub-result-2 c =
     search (moved_runs c.args.x c.args.q (across c.args.p) c.requires _ _ c.surface_of-low.ensures c.surface_of-high.ensures).asks

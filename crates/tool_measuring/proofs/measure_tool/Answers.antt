@@ -9,6 +9,3 @@ pub returns-in_err-p : goal.returns-in_err-p
 returns-in_err-p g c =
     let s = c.args in
     refused_by_arguments s.area.now (tool (tool_by g.T.Raw.reading s.a)) s.results.now s.place (omega (arith, c.told-area)) _ (search rules) c.in_err-p.ensures.refusal
-
-pub returns : goal.returns
-returns g c = c.measure_passed.ensures (tool_by g.T.Raw.reading c.args.a) c.in_ok-p.ensures.given (sym c.in_ok-p.ensures.refusal)

@@ -9,12 +9,6 @@ use Rattle.evaluation.specs.FoundSmall.{value_size}
 use Rattle.tool_offset.proofs.Laws.{small_value, found_is}
 use Rattle.tool_offset.proofs.find.Goals as goal
 
-pub difference_of-deviation-requires : goal.difference_of-deviation-requires
-difference_of-deviation-requires c =
-    let small = c.measured.result.small in
-    let f : mag c.args.r.ev < 32768 = search rules in
-    (small.size, small.setpoint, rw (widened w16 w64 c.args.r.ev tt f).value (value_size c.args.r.ev (small_value c.args.r.ev f)))
-
 pub returns : goal.returns
 returns c =
     let r = c.args.r in

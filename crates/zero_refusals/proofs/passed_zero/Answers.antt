@@ -51,11 +51,3 @@ invariant_of-result g c =
       probing = rw c.with_raws-given.ensures (given.1, refl);
       passed = rw c.with_raws-given.ensures (all_passed (zero_with a p.raws) k.0 numbers positions f t);
     }
-
-pub returns-clause-refusal : goal.returns-clause-refusal
-returns-clause-refusal g c =
-    let a = c.args.a in
-    let k = rw (read a.probing.kind (search rules)) at (known_is _ _ (sym c.zero_kind.ensures ∙ c.in_ok-kind.was)) in
-    let f = rw (read a.offset (search rules)) at (sym c.in_range.ensures ∙ c.if-not-in_range.false) in
-    let t = rw (read a.tsa (search rules)) at (sym c.in_range-2.ensures ∙ c.if-not-in_range-2.false) in
-    rw t at (tsa_last (zero_by g.T.Raw.reading a) k.0 f (rw k.1 at c.in_ok-probed.ensures.refusal))

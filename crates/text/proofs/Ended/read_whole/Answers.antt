@@ -7,9 +7,6 @@ use Rattle.text.specs.PieceLaws.{field_next, field_within}
 use Rattle.text.proofs.Laws.{Passed, none_passed, digit_passed, stops, no_digits, nought_alone, ended}
 use Rattle.text.proofs.Ended.read_whole.Goals as goal
 
-power : (i : ℕ) → i < 8 → 10 ^ i ≤ 10 ^ 7
-power i h = pow-le-pow_right (omega arith) {j = 7} (omega arith)
-
 -- the line feed ends the field within the text
 inside : (s : List ℕ) (n i : ℕ) → HasLine s → Passed (field s) n i (field (drop i s)) → i < length s
 inside s n i h p = omega (arith, p.size, field_within s)
@@ -47,12 +44,6 @@ loop-size-init c =
 
 pub bounds-self-size : goal.bounds-self-size
 bounds-self-size c = inside c.args.self.bytes.now c.loop-size.value c.loop-size.size c.args.self.ended c.loop-size.invariant.passed
-
-pub overflow_mul-value : goal.overflow_mul-value
-overflow_mul-value c = omega (arith, power c.loop-size.size (omega arith))
-
-pub overflow_add-value : goal.overflow_add-value
-overflow_add-value c = omega (arith, power c.loop-size.size (omega arith), c.in-Some.ensures)
 
 pub returns-in-None : goal.returns-in-None
 returns-in-None c =
