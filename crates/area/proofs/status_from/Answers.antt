@@ -1,5 +1,5 @@
 -- The nearest number in 0..255 is within a byte, so that the cast keeps it.
-use mathlib.Core.Path.{refl, ap, ◌∙◌}
+use mathlib.Core.Path.{refl}
 use Prim.Native.Nat.{◌≤◌}
 use native.Mathlib.Omega.{arith}
 use lib.IntN.{ℤ, pos, nat_abs}
@@ -7,7 +7,7 @@ use lib.Signed.{◌≤ℤ◌, yes_non_neg}
 use Rattle.signed.specs.Differences.{ints, parts}
 use Rattle.signed.specs.RangeLaws.{within_is}
 use Rattle.signed.specs.CodeLaws.{read}
-use Rattle.area.proofs.Laws.{wide, nearest_is, nearest_in_range}
+use Rattle.area.proofs.Laws.{nearest_in_range}
 use Rattle.area.proofs.status_from.Goals as goal
 use Rattle.area.proofs.status_from.Goals.{After-nearest_in}
 

@@ -4,7 +4,7 @@ use lib.IntN.{pos}
 use mir.Syntax.{w16}
 use Rattle.signed.specs.Ranges.{minus}
 use Rattle.signed.specs.CodeLaws.{Cast, casts}
-use Rattle.area.proofs.Laws.{wide, nearest_is, nearest_in_range}
+use Rattle.area.proofs.Laws.{nearest_is, nearest_in_range}
 use Rattle.area.proofs.value_from.Goals as goal
 use Rattle.area.proofs.value_from.Goals.{After-nearest_in}
 

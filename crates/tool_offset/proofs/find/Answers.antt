@@ -5,8 +5,7 @@ use Rattle.std.specs.Int.Signed.{mag}
 use Rattle.signed.specs.CodeLaws.{read, widened}
 use Rattle.rules.specs.Sizes.{difference}
 use Rattle.rules.specs.Tool.{named, weight, decided, on_length, factor, wear_on}
-use Rattle.evaluation.specs.FoundSmall.{value_size}
-use Rattle.tool_offset.proofs.Laws.{small_value, found_is}
+use Rattle.tool_offset.proofs.Laws.{found_is}
 use Rattle.tool_offset.proofs.find.Goals as goal
 
 pub returns : goal.returns

@@ -1,5 +1,5 @@
 -- Refused by the arguments; else they passed.
-use Rattle.std.proofs.Common.{sym, arith, rules}
+use Rattle.std.proofs.Common.{arith, rules}
 use Rattle.package.specs.Given.{zero_by}
 use Rattle.measuring.specs.Reply.{zero}
 use Rattle.measuring.specs.ReplyLaws.{refused_by_arguments}

@@ -1,6 +1,6 @@
 -- Before each turn `value` is what the `size` digits so far spell and the field goes on there; a first byte that is 0 or no digit is a case of its own.
 use Rattle.std.proofs.Common.{◌≡◌, ℕ, ◌+◌, ◌*◌, ◌^◌, ◌<◌, ◌≤◌, List, length, get_or, drop, ap, inl, inr, add-one, arith}
-use native.Mathlib.Nat.{pow-succ', pow-le-pow_right}
+use native.Mathlib.Nat.{pow-succ'}
 use Rattle.text.specs.Numbers.{nought}
 use Rattle.text.specs.Pieces.{HasLine, field}
 use Rattle.text.specs.PieceLaws.{field_next, field_within}
