@@ -1,8 +1,6 @@
 -- The rule of the positions by the form: a conjunction over the positions, centres and setpoint that the form uses.
-use Rattle.std.proofs.Common.{◌≡◌, ap, ap₂, ◌∙◌, Bool, true, ◌&&◌, List, [], ◌∷◌, ◌<◌, ◌^◌, ℤ, w64, to_z, of_z}
+use Rattle.std.proofs.Common.{◌≡◌, ap, ◌∙◌, Bool, true, ◌&&◌, List, [], ◌∷◌, ℤ}
 use Rattle.std.proofs.Math.Bool.{and-true}
-use Rattle.std.specs.Int.Signed.{mag}
-use Rattle.signed.specs.CodeLaws.{read}
 use Rattle.lists.specs.Each.{Each, every, every_append}
 use Rattle.package.specs.declared.found.Form.TheVariants.{Plane, Single, Double}
 use Rattle.package.specs.declared.found.Kind.{Kind}
@@ -30,7 +28,3 @@ module _ (k : Kind) (a : Probing) (q : Raws) where
   unfolding positions_ok
   of_double f =
       rw f (ap (λ b. b && in_range (a.c1 ∷ a.c2 ∷ []) && width_range a.setpoint) (every_append position_range (q.r1 ∷ q.r2 ∷ []) (q.r3 ∷ q.r4 ∷ [])))
-
--- what the code reads of its arguments
-two_read : (v w : ℤ) → mag v < 2 ^ 63 → mag w < 2 ^ 63 → in_range (to_z w64 (of_z w64 v) ∷ to_z w64 (of_z w64 w) ∷ []) ≡ in_range (v ∷ w ∷ [])
-two_read v w f g = ap₂ (λ v w. in_range (v ∷ w ∷ [])) (read v f) (read w g)
