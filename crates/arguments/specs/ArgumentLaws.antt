@@ -1,8 +1,9 @@
 -- What a measurement is given, by the numbers at the front of others.
 use Rattle.std.specs.Prelude.{◌≡◌, List, ℕ, ◌<◌, ◌≤◌, ℤ, pos, take}
-use Rattle.std.proofs.Common.{arith}
+use Rattle.std.proofs.Common.{ap, ap₂, arith}
 use Rattle.std.proofs.lemmas.List.{get_or-take}
-use Rattle.arguments.specs.Arguments.{at, calibration_of, probing_of, raws_of, limits_of, tool_of, zero_of, reports_of, reported_of}
+use Rattle.package.specs.Given.{tool_with}
+use Rattle.arguments.specs.Arguments.{at, calibration_of, probing_of, raws_of, limits_of, tool_of, zero_of, reports_by, reports_of, reported_of}
 
 module _ (n : ℕ) (vs : List ℤ) where
   pub front : (i : ℕ) → i < n → at (take n vs) i ≡ at vs i
@@ -25,7 +26,7 @@ module _ (n : ℕ) (vs : List ℤ) where
     raws_front = rw (front 7 (omega arith), front 8 (omega arith), front 9 (omega arith), front 10 (omega arith))
 
     reports_front : reports_of (take n vs) ≡ reports_of vs
-    reports_front = rw (front 7 (omega arith), front 8 (omega arith), front 9 (omega arith), front 10 (omega arith))
+    reports_front = ap reports_by raws_front
 
   limits_front : 21 ≤ n → limits_of (take n vs) ≡ limits_of vs
   limits_front h =
@@ -68,14 +69,6 @@ tool_front vs =
       front 21 vs 14 (omega arith),
     )
 
+-- a measurement with reports is that with its raws, with others in their place
 pub reported_front : (vs : List ℤ) → reported_of (take 21 vs) ≡ reported_of vs
-reported_front vs =
-    rw (
-      probing_front 21 vs (omega arith),
-      reports_front 21 vs (omega arith),
-      limits_front 21 vs (omega arith),
-      front 21 vs 11 (omega arith),
-      front 21 vs 12 (omega arith),
-      front 21 vs 13 (omega arith),
-      front 21 vs 14 (omega arith),
-    )
+reported_front vs = ap₂ tool_with (tool_front vs) (reports_front 21 vs (omega arith))
