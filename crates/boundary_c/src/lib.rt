@@ -1,4 +1,4 @@
-// The calls for C: each hands on to the call in place, on the area that the caller lends.
+// The calls for C: each is the one of `boundary`, under its name and with its numbers and places, since no Rattle crate can rest on a static library.
 #![tactic(auto)]
 
 ghost use Rattle.std.specs.Prelude.{◌≡◌};
@@ -11,20 +11,16 @@ ghost use Rattle.measuring.specs.Reply.{reply, tool_exported, zero_exported};
 ghost use Rattle.lent_measuring.specs.LentMeasured.{tool_readings_exported, zero_readings_exported};
 ghost use Rattle.jobs.specs.Jobs.{job_left, job_called};
 
-use calibrating::calibrate;
-use jobs::{Ran, run_job};
-use lent_measuring::{lent_tool, lent_tool_readings, lent_zero, lent_zero_readings, measure};
+use jobs::Ran;
 use measuring::Decided;
-use package::arguments::{Calibration, Reading, Report};
 use package::records::Status;
-use package::refusals::refusal_in;
 
 // Writes the fresh package, every record 0.
 #[unsafe(no_mangle)]
 pub extern "C" fn mezhtolik_fresh(area: &mut [i32]) -> u32
     ensures { unmeasured result area.new ≡ fresh_called area.old }
 {
-    refusal_in(fresh_area::fresh(area))
+    boundary::mezhtolik_fresh(area)
 }
 
 // Replaces one empirical value.
@@ -32,7 +28,7 @@ pub extern "C" fn mezhtolik_fresh(area: &mut [i32]) -> u32
 pub extern "C" fn mezhtolik_set_empirical(area: &mut [i32], ev: i64, value: i64) -> u32
     ensures { unmeasured result area.new ≡ called area.old (set_empirical ev value) }
 {
-    refusal_in(empirical_setting::set_empirical(area, ev, value))
+    boundary::mezhtolik_set_empirical(area, ev, value)
 }
 
 // Replaces one tool's two wears.
@@ -40,7 +36,7 @@ pub extern "C" fn mezhtolik_set_empirical(area: &mut [i32], ev: i64, value: i64)
 pub extern "C" fn mezhtolik_set_wear(area: &mut [i32], tool: i64, radius: i64, length: i64) -> u32
     ensures { unmeasured result area.new ≡ called area.old (set_wear tool radius length) }
 {
-    refusal_in(wear_setting::set_wear(area, tool, radius, length))
+    boundary::mezhtolik_set_wear(area, tool, radius, length)
 }
 
 // Replaces one zero offset on its three axes.
@@ -54,10 +50,10 @@ pub extern "C" fn mezhtolik_set_offset(
 ) -> u32
     ensures { unmeasured result area.new ≡ called area.old (set_offset offset v1 v2 v3) }
 {
-    refusal_in(zero_setting::set_offset(area, offset, v1, v2, v3))
+    boundary::mezhtolik_set_offset(area, offset, v1, v2, v3)
 }
 
-// Calibrates one direction of a probe. Axis and direction are numbers, here and in the next call, since C gives numbers.
+// Calibrates one direction of a probe.
 #[unsafe(no_mangle)]
 pub extern "C" fn mezhtolik_calibrate(
     area: &mut [i32],
@@ -71,16 +67,7 @@ pub extern "C" fn mezhtolik_calibrate(
 ) -> u32
     ensures { unmeasured result area.new ≡ called area.old (calibrate (calibration probe axis direction setpoint raw tzl tsa)) }
 {
-    let a = Calibration {
-        probe,
-        axis,
-        direction,
-        setpoint,
-        raw,
-        tzl,
-        tsa,
-    };
-    refusal_in(calibrate(area, a))
+    boundary::mezhtolik_calibrate(area, probe, axis, direction, setpoint, raw, tzl, tsa)
 }
 
 // Calibrates one direction of a probe by a report.
@@ -100,17 +87,7 @@ pub extern "C" fn mezhtolik_calibrate_report(
     ensures { unmeasured result area.new
         ≡ called area.old (calibrate_reading (reported probe axis direction setpoint (record { x = x; y = y; z = z }) tzl tsa)) }
 {
-    let report = Report { x, y, z };
-    let t = Calibration {
-        probe,
-        axis,
-        direction,
-        setpoint,
-        raw: Reading::Reported(report),
-        tzl,
-        tsa,
-    };
-    refusal_in(calibrate(area, t))
+    boundary::mezhtolik_calibrate_report(area, probe, axis, direction, setpoint, x, y, z, tzl, tsa)
 }
 
 // The bits of a probe's status and the number of directions calibrated.
@@ -118,10 +95,10 @@ pub extern "C" fn mezhtolik_calibrate_report(
 pub extern "C" fn mezhtolik_probe_status(area: &[i32], probe: i64) -> Status
     ensures { result ≡ status_called area.now probe }
 {
-    status_reading::probe_status(area, probe).into()
+    boundary::mezhtolik_probe_status(area, probe)
 }
 
-// Measures with tool offset by 21 numbers and writes the 42 numbers that begin at place. C lends a buffer and names a place in it, in all four calls.
+// Measures with tool offset by 21 numbers and writes the 42 numbers that begin at place.
 #[unsafe(no_mangle)]
 pub extern "C" fn mezhtolik_measure_tool(
     area: &mut [i32],
@@ -131,7 +108,7 @@ pub extern "C" fn mezhtolik_measure_tool(
 ) -> Decided
     ensures { reply result area.new results.new ≡ tool_exported area.old numbers.now results.old place }
 {
-    measure(area, lent_tool(numbers), results, place).into()
+    boundary::mezhtolik_measure_tool(area, numbers, results, place)
 }
 
 // Measures with zero offset by 13 numbers and writes the 42 numbers that begin at place.
@@ -144,12 +121,11 @@ pub extern "C" fn mezhtolik_measure_zero(
 ) -> Decided
     ensures { reply result area.new results.new ≡ zero_exported area.old numbers.now results.old place }
 {
-    measure(area, lent_zero(numbers), results, place).into()
+    boundary::mezhtolik_measure_zero(area, numbers, results, place)
 }
 
 // Measures with tool offset by 21 numbers and 12 floats, the raws that `reported` marks by their reports, and writes the 42 numbers that begin at place.
 #[unsafe(no_mangle)]
-#[tactic(auto, using(measuring::specs::ReplyLaws::exported_lent))]
 pub extern "C" fn mezhtolik_measure_tool_readings(
     area: &mut [i32],
     numbers: &[i64],
@@ -161,13 +137,11 @@ pub extern "C" fn mezhtolik_measure_tool_readings(
     ensures { reply result area.new results.new
         ≡ tool_readings_exported area.old numbers.now floats.now reported results.old place }
 {
-    let m = lent_tool_readings(numbers, floats, reported);
-    measure(area, m, results, place).into()
+    boundary::mezhtolik_measure_tool_readings(area, numbers, floats, reported, results, place)
 }
 
 // Measures with zero offset by 13 numbers and 12 floats, the raws that `reported` marks by their reports, and writes the 42 numbers that begin at place.
 #[unsafe(no_mangle)]
-#[tactic(auto, using(measuring::specs::ReplyLaws::exported_lent))]
 pub extern "C" fn mezhtolik_measure_zero_readings(
     area: &mut [i32],
     numbers: &[i64],
@@ -179,8 +153,7 @@ pub extern "C" fn mezhtolik_measure_zero_readings(
     ensures { reply result area.new results.new
         ≡ zero_readings_exported area.old numbers.now floats.now reported results.old place }
 {
-    let m = lent_zero_readings(numbers, floats, reported);
-    measure(area, m, results, place).into()
+    boundary::mezhtolik_measure_zero_readings(area, numbers, floats, reported, results, place)
 }
 
 // Replaces all empirical and mean values by those of a block of 80 bytes.
@@ -188,7 +161,7 @@ pub extern "C" fn mezhtolik_measure_zero_readings(
 pub extern "C" fn mezhtolik_load(area: &mut [i32], bytes: &[u8]) -> u32
     ensures { unmeasured result area.new ≡ called area.old (load bytes.now) }
 {
-    refusal_in(memory::load(area, bytes))
+    boundary::mezhtolik_load(area, bytes)
 }
 
 // Writes the block of all empirical and mean values to the first 80 bytes of the buffer.
@@ -196,7 +169,7 @@ pub extern "C" fn mezhtolik_load(area: &mut [i32], bytes: &[u8]) -> u32
 pub extern "C" fn mezhtolik_save(area: &[i32], buffer: &mut [u8]) -> u32
     ensures { saved_as result buffer.new ≡ save_called area.now buffer.old }
 {
-    refusal_in(memory::save(area, buffer))
+    boundary::mezhtolik_save(area, buffer)
 }
 
 // Runs a job and writes the answers of its lines to the front of the output.
@@ -205,5 +178,5 @@ pub extern "C" fn mezhtolik_run_job(area: &mut [i32], job: &[u8], output: &mut [
     ensures { job_left result.refusal result.length area.new output.new
         ≡ job_called area.old job.now output.old }
 {
-    run_job(area, job, output).into()
+    boundary::mezhtolik_run_job(area, job, output)
 }

@@ -1,11 +1,11 @@
 -- What is lent is measured where it is as many numbers and floats as a measurement has.
-use Rattle.std.proofs.Common.{◌≡◌, ◌∙◌, ◌&&◌, eqb, length}
+use Rattle.std.proofs.Common.{◌∙◌, ◌&&◌, eqb, length}
 use Rattle.package.specs.Given.{ToolReadings}
 use Rattle.arguments.specs.Arguments.{tool_of}
 use Rattle.lent_reports.specs.LentReports.{report_floats, lent_readings, tool_reported}
 use Rattle.measuring.specs.Reply.{tool}
 use Rattle.measuring.specs.ReplyLaws.{exported_lent}
-use Rattle.boundary_c.proofs.mezhtolik_measure_tool_readings.Goals as goal
+use Rattle.boundary.proofs.mezhtolik_measure_tool_readings.Goals as goal
 
 pub returns : goal.returns
 returns c =
