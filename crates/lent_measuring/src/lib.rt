@@ -19,6 +19,11 @@ use package::refusals::Refusal;
 use tool_measuring::measure_tool;
 use zero_measuring::measure_zero;
 
+// How many numbers a measurement is lent.
+pub const TOOL_NUMBERS: usize = 21;
+
+pub const ZERO_NUMBERS: usize = 13;
+
 // A measurement of either way. Its results and the place in them stand side by side, as C lends them.
 pub trait Measurement: Copy {
     ghost said: { Self → measuring.Measurement };
@@ -97,14 +102,14 @@ pub fn measure<M: Measurement>(
 pub fn lent_tool(numbers: &[i64]) -> Option<ToolMeasurement<i64>>
     ensures { result ≡ tool_lent numbers.now }
 {
-    Some(tool_of(numbers.as_array()?))
+    Some(tool_of(numbers.as_array::<TOOL_NUMBERS>()?))
 }
 
 // What a measurement with zero offset is lent, where it is 13 numbers.
 pub fn lent_zero(numbers: &[i64]) -> Option<ZeroMeasurement<i64>>
     ensures { result ≡ zero_lent numbers.now }
 {
-    Some(zero_of(numbers.as_array()?))
+    Some(zero_of(numbers.as_array::<ZERO_NUMBERS>()?))
 }
 
 // The same with 12 floats, the raws that `reported` marks by their reports.

@@ -84,9 +84,9 @@ put_row-filled-requires c =
     let i = c.loop-at.invariant in
     let r = runs_when job (length c.args.output.now) c.requires.1 in
     let k = counted job _ r c.loop-at.at (omega arith) _ c.read_line-line.ensures.1 c.loop-at.number i.left in
-    let e = stepped job c.loop-at.at c.loop-at.area c.loop-at.number c.run_line-answer.result c.run_line-answer.new.area _ c.run_line-answer.ensures
+    let e = stepped job c.loop-at.at c.loop-at.area c.loop-at.number c.answer_line-answer.result c.answer_line-answer.new.area _ c.answer_line-answer.ensures
     c.read_line-line.ensures.0 in
-    let fit = fitting c.run_line-answer.result (λ x q. let t = rw q at c.run_line-answer.type_inv in (search (rules, t), search (rules, t))) in
+    let fit = fitting c.answer_line-answer.result (λ x q. let t = rw q at c.answer_line-answer.type_inv in (search (rules, t), search (rules, t))) in
     let s = short c.loop-at.area c.loop-at.number _ _ i.whole k.1 e fit in
     omega (arith, s, k.0, r.room, i.filled, i.room)
 
@@ -106,9 +106,9 @@ loop-at-preserved c =
     let k = counted job _ r at (omega arith) _ f number i.left in
     let w = within job _ r at (omega arith) _ f in
     let later = lines (drop (at + (c.read_line-line.result.length + 1)) job) in
-    let o : Ran = ran number c.run_line-answer.result c.run_line-answer.new.area in
-    let e = stepped job at area number _ c.run_line-answer.new.area _ c.run_line-answer.ensures c.read_line-line.ensures.0 in
-    let fit = fitting c.run_line-answer.result (λ x q. let t = rw q at c.run_line-answer.type_inv in (search (rules, t), search (rules, t))) in
+    let o : Ran = ran number c.answer_line-answer.result c.answer_line-answer.new.area in
+    let e = stepped job at area number _ c.answer_line-answer.new.area _ c.answer_line-answer.ensures c.read_line-line.ensures.0 in
+    let fit = fitting c.answer_line-answer.result (λ x q. let t = rw q at c.answer_line-answer.type_inv in (search (rules, t), search (rules, t))) in
     let s = short area number o _ i.whole k.1 e fit in
     let t = row_text o.row in
     let p : c.put_row-filled.result ≡ n + length t = c.put_row-filled.ensures.0 in
@@ -118,7 +118,7 @@ loop-at-preserved c =
       within = omega (arith, w);
       left = k.0;
       filled = omega (arith, p, s, i.filled);
-      whole = c.run_line-answer.auto.area ∙ i.whole;
+      whole = c.answer_line-answer.auto.area ∙ i.whole;
       room = ap length b ∙ written_length out n t h ∙ i.room;
       behind = rw (p, b) (written_drop out n t h ∙ drop_more out old n (length t) i.behind);
       text = rw (p, b, written_take out n t h)

@@ -1,16 +1,20 @@
 -- By cases, a law each: no letter, no comma behind it, a wrong field, over 200 bytes, and a count of fields that fits the letter or does not.
-use Rattle.std.proofs.Common.{◌≡◌, ◌∙◌, ap, sym, ℕ, None, Option, Some, ◌+◌, ◌<◌, ◌≤◌, List, ℤ, length, drop, get_or, arith, length-drop}
+use Rattle.std.proofs.Common.{◌≡◌, ◌∙◌, ap, sym, ℕ, None, Option, Some, ◌+◌, ◌<◌, ◌≤◌, List, ℤ, length, drop, get_or, arith, length-drop, nat_eq, nat_le, eq-eqb, ne_eqb}
+use Rattle.std.proofs.Math.Decide.{ℕ_discrete}
+use Rattle.std.proofs.lemmas.Bool.{lt-leb}
+use Rattle.std.specs.Bool.{then_some}
 use Rattle.text.specs.Pieces.{cut, comma, line_feed, line, HasLine}
 use Rattle.text.specs.PieceLaws.{up_drop}
 use Rattle.job_text.specs.declared.Fields.{Fields}
 use Rattle.job_text.specs.declared.Letter.{Letter}
 use Rattle.job_text.specs.Letters.{most_fields, field_count, form_of}
-use Rattle.job_text.specs.Bytes.{byte_of}
+use Rattle.job_text.specs.Bytes.{byte_of, letter_byte}
 use Rattle.job_text.specs.Lines.{Numbers, numbers_of, malformed, said_behind, said_by}
 use Rattle.job_text.specs.Fields.{field_numbers, numbers_in, Ends, said_in}
-use Rattle.job_text.specs.LineLaws.{no_feed, other_letter, other_byte, too_long, one_byte, two_bytes, fields_say, unfitting, wrong_line}
+use Rattle.job_text.specs.LineLaws.{no_feed, other_letter, other_byte, too_long, one_byte, two_bytes, fields_say, unfitting, wrong_line, says_nothing}
 use Rattle.job_text.proofs.LineLaws.{fitting}
-use Rattle.job_text.proofs.read_formed.Goals as goal
+use Rattle.job_text.proofs.read_known.Goals as goal
+use Rattle.job_text.proofs.read_known.Goals.{then-length-le-LINE_LIMIT, else-length-le-LINE_LIMIT}
 
 -- a text that begins with a letter
 module _ (s : List ℕ) (on : HasLine s) (l : Letter) (named : byte_of l ≡ get_or s 0 0) where
@@ -35,18 +39,30 @@ module _ (s : List ℕ) (on : HasLine s) (l : Letter) (named : byte_of l ≡ get
       length_is : f.size + 2 ≡ length (line s)
       length_is = omega (arith, t.1, two, ap length (up_drop line_feed s 2 two), length-drop 2 (line s))
 
-      long : 200 < f.size + 2 → said_by (line s) ≡ malformed
-      long h = too_long (line s) (omega (arith, length_is))
+      -- no letter
+      nothing : said_by (line s) ≡ malformed → said_in 0 vs ≡ said_by (line s)
+      nothing e = says_nothing vs ∙ sym e
+
+      long : 200 < f.size + 2 → said_in (letter_byte (then_some (nat_le (f.size + 2) 200) l)) vs ≡ said_by (line s)
+      long h = rw (lt-leb (f.size + 2) 200 h) (nothing (too_long (line s) (omega (arith, length_is))))
 
       module _ (h : f.size + 2 ≤ 200) where
         says_by : said_by (line s) ≡ said_behind (byte_of l) numbers
         says_by = rw named (fields_say s two (omega (arith, length_is)) parted)
 
-        misfit : (f.count ≡ field_count (byte_of l) → ⊥) → said_by (line s) ≡ malformed
-        misfit n = says_by ∙ unfitting (byte_of l) numbers f.count vs t.1.0 (omega arith) t.0 n
+        misfit : (f.count ≡ field_count (byte_of l) → ⊥) → said_in 0 vs ≡ said_by (line s)
+        misfit n = nothing (says_by ∙ unfitting (byte_of l) numbers f.count vs t.1.0 (omega arith) t.0 n)
 
         fits : f.count ≡ field_count (byte_of l) → said_in (byte_of l) vs ≡ said_by (line s)
         fits n = fitting (byte_of l) numbers f.count vs t.1.0 (omega arith) t.0 n ∙ sym says_by
+
+        counted : said_in (letter_byte (then_some (nat_eq f.count (field_count (byte_of l))) l)) vs ≡ said_by (line s)
+        counted = go (ℕ_discrete f.count (field_count (byte_of l)))
+          where
+            go : Dec (f.count ≡ field_count (byte_of l))
+                → said_in (letter_byte (then_some (nat_eq f.count (field_count (byte_of l))) l)) vs ≡ said_by (line s)
+            go (yes n) = rw (eq-eqb f.count (field_count (byte_of l)) n) (fits n)
+            go (no n) = rw (ne_eqb f.count (field_count (byte_of l)) n) (misfit n)
 
 pub bounds-rest-1 : goal.bounds-rest-1
 bounds-rest-1 c = omega (arith, letter_first c.args.rest.bytes.now c.args.rest.ended c.in-Ok.letter c.in-Ok.ensures)
@@ -66,22 +82,17 @@ returns-in_err-fields c =
     (wrong c.args.rest.bytes.now c.args.rest.ended c.in-Ok.letter c.in-Ok.ensures c.if-rest-ne-COMMA.false c.read_fields.new.values
     (rw c.from_place.ensures at c.in_err-fields.ensures))
 
-pub returns-then-length-gt-LINE_LIMIT : goal.returns-then-length-gt-LINE_LIMIT
-returns-then-length-gt-LINE_LIMIT c =
-    long c.args.rest.bytes.now c.args.rest.ended c.in-Ok.letter c.in-Ok.ensures c.if-rest-ne-COMMA.false c.read_fields.new.values c.read_fields.array_long
-    c.in_ok-fields.fields (rw c.from_place.ensures at c.in_ok-fields.ensures) c.if-length-gt-LINE_LIMIT.true
-
-pub returns-then-fields-field_count : goal.returns-then-fields-field_count
-returns-then-fields-field_count c =
-    misfit c.args.rest.bytes.now c.args.rest.ended c.in-Ok.letter c.in-Ok.ensures c.if-rest-ne-COMMA.false c.read_fields.new.values c.read_fields.array_long
-    c.in_ok-fields.fields (rw c.from_place.ensures at c.in_ok-fields.ensures) c.if-length-gt-LINE_LIMIT.false
-    (rw c.field_count.ensures at c.if-fields-field_count.true)
-
 pub returns : goal.returns
 returns c =
     let s = c.args.rest.bytes.now in
     let t = rw c.from_place.ensures at c.in_ok-fields.ensures in (
-      fits s c.args.rest.ended c.in-Ok.letter c.in-Ok.ensures c.if-rest-ne-COMMA.false c.read_fields.new.values c.read_fields.array_long c.in_ok-fields.fields t
-          c.if-length-gt-LINE_LIMIT.false (rw c.field_count.ensures at c.if-fields-field_count.false),
+      rw c.then_some.ensures (elim c.if-length-le-LINE_LIMIT.branch [
+        | then-length-le-LINE_LIMIT w ↦ rw (w.fits-is, w.field_count.ensures)
+            (counted s c.args.rest.ended c.in-Ok.letter c.in-Ok.ensures c.if-rest-ne-COMMA.false c.read_fields.new.values c.read_fields.array_long
+            c.in_ok-fields.fields t w.if-length-le-LINE_LIMIT.true)
+        | else-length-le-LINE_LIMIT w ↦ rw w.fits-is
+            (long s c.args.rest.ended c.in-Ok.letter c.in-Ok.ensures c.if-rest-ne-COMMA.false c.read_fields.new.values c.read_fields.array_long
+            c.in_ok-fields.fields t w.if-length-le-LINE_LIMIT.false)
+      ]),
       length_is s c.args.rest.ended c.in-Ok.letter c.in-Ok.ensures c.if-rest-ne-COMMA.false c.read_fields.new.values c.read_fields.array_long c.in_ok-fields.fields t,
     )
