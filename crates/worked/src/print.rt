@@ -22,6 +22,14 @@ pub struct Wears<'a>(pub &'a [i32]);
 #[derive(Clone, Copy)]
 pub struct Named<'a>(pub &'a str, pub Option<&'a [i32]>);
 
+// The two wears of a tool; nothing where there is none.
+#[derive(Clone, Copy)]
+pub struct WearNumbers<'a>(pub Option<&'a [i32]>);
+
+// The triggers of a probe and the bits of its status; nothing where there is none.
+#[derive(Clone, Copy)]
+pub struct ProbeNumbers<'a>(pub Option<&'a [i32]>);
+
 // The first and the last of numbers after their name; nothing where there are none.
 #[derive(Clone, Copy)]
 pub struct Ends<'a>(pub &'a str, pub &'a [i32]);
@@ -82,6 +90,24 @@ impl fmt::Display for Named<'_> {
         match self.1 {
             None | Some([]) => Ok(()),
             Some(values) => write!(f, " {}{}", self.0, Plain(values)),
+        }
+    }
+}
+
+impl fmt::Display for WearNumbers<'_> {
+    fn fmt<W: fmt::Write>(&self, f: &mut fmt::Formatter<W>) -> fmt::Result {
+        match self.0 {
+            Some([radius, length]) => write!(f, " radius {radius} length {length}"),
+            _ => Ok(()),
+        }
+    }
+}
+
+impl fmt::Display for ProbeNumbers<'_> {
+    fn fmt<W: fmt::Write>(&self, f: &mut fmt::Formatter<W>) -> fmt::Result {
+        match self.0.and_then(|numbers| numbers.split_last()) {
+            Some((bits, triggers)) => write!(f, " triggers{} bits {bits}", Plain(triggers)),
+            None => Ok(()),
         }
     }
 }
