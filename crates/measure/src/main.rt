@@ -3,6 +3,10 @@
 // Its buffers are arrays on the stack, whose size ./measure says and tests/jobs tries: no memory can run out while it runs.
 #![tactic(auto)]
 
+ghost use Rattle.std.specs.Prelude.{◌≡◌, ◌≢◌, IfErr, IsErrOf};
+ghost use Rattle.job_limits.specs.JobRules.{job_refusal};
+ghost use Rattle.job_report.specs.Causes.{cause};
+
 use area::AREA;
 use file_input::read_full;
 use fresh_area::fresh;
@@ -23,7 +27,11 @@ const ROOM: usize = LINE_ROOM * LINES_LIMIT;
 // The most bytes of a name.
 const NAME: usize = 4_096;
 
-fn print_answers(rt: &impl Print, job: &[u8]) -> Result<(), JobError> {
+// A job that is refused is told its own cause; one that ran fails only where its answers cannot be written.
+fn print_answers(rt: &impl Print, job: &[u8]) -> Result<(), JobError>
+    ensures refused { job_refusal job.now ROOM ≢ 0 → IsErrOf result (cause job.now) }
+    ensures ran { job_refusal job.now ROOM ≡ 0 → IfErr result (λ e. e ≡ JobError.Unwritten) }
+{
     let mut area = [0i32; AREA];
     let _ = fresh(&mut area);
     let mut output = [0u8; ROOM];
