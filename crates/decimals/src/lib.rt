@@ -18,11 +18,14 @@ pub fn put_byte(out: &mut [u8], at: usize, b: u8) -> usize
     at + 1
 }
 
-// How many digits a number has. A loop of divisions would save a hundredth of a job's instructions, and is no plainer.
+// How many digits a number has. Most numbers of an answer have one: the test in front spares them the logarithm, some five instructions for each.
 fn digit_count(n: u32) -> usize
     ensures { result ≡ length (decimal n) }
 {
-    n.max(1).ilog10() as usize + 1
+    if n < 10 {
+        return 1;
+    }
+    n.ilog10() as usize + 1
 }
 
 // A number that is written in decimal digits.
