@@ -1,18 +1,19 @@
 -- A calibration in place: by the two numbers of its probe's record that it reads, and by the two that it writes.
-use Rattle.std.specs.Prelude.{◌≡◌, true, List, [], ◌∷◌, ◌++◌, ℕ, suc, ◌-◌, ◌≤◌, ◌<◌, ℤ, pos, length, get_or, set, take, Result, Err}
+use Rattle.std.specs.Prelude.{◌≡◌, true, List, [], ◌∷◌, ◌++◌, ℕ, zero, suc, ◌-◌, ◌≤◌, ◌<◌, ℤ, pos, negsuc, length, get_or, set, take, Result, Err}
 use Rattle.std.proofs.Math.Path.{refl}
-use Rattle.std.proofs.Common.{sym, ap, ◌∙◌, arith, length-set, drop_of_length-le, get_or-take}
+use Rattle.std.proofs.Common.{sym, ap, ◌∙◌, arith, length-set, drop_of_length-le, get_or-take, w64, to_z, of_z}
+use Rattle.std.proofs.lemmas.Int.{to_z_pos}
 use Rattle.std.proofs.lemmas.List.{set_split}
 use Rattle.std.proofs.Math.Seq.{take-set-lt}
 use Rattle.package.specs.declared.refusals.Refusal.{Refusal}
 use Rattle.package.specs.Refusals.{number, refusal_in}
 use Rattle.package.specs.RefusalLaws.{number_some}
 use Rattle.package.specs.Given.{Calibration, CalibrationReading}
-use Rattle.signed.specs.RangeLaws.{or_zero}
+use Rattle.signed.specs.RangeLaws.{or_zero, true_T, below_top}
 use Rattle.rules.specs.Refusals.{first}
 use Rattle.rules.specs.RefusalLaws.{test_passed, first_sooner}
 use Rattle.rules.specs.WholeReadings.{calibration_whole}
-use Rattle.rules.specs.Stores.{probes, at}
+use Rattle.rules.specs.Stores.{probe_number, probes, at}
 use Rattle.rules.specs.Probes.{place_of}
 use Rattle.rules.specs.Calibration.{calibration_arguments, calibration_arguments_with, calibration_at, good_calibration, Calibrated, calibrated_with, calibrated_probe}
 use Rattle.rules.specs.Calls.{calibrate, calibrate_reading, rules}
@@ -49,6 +50,15 @@ pub given_passed : (area : List ℤ) (t : CalibrationReading) → 0 ≡ first (c
 given_passed area t e = sym (same_called area (calibration_whole t (good_of t e)))
 
 -- ---- a whole position
+probe_held : (n : ℤ) → probe_number n ≡ true → to_z w64 (of_z w64 n) ≡ n
+probe_held (pos zero) e = absurd (true_T e)
+probe_held (pos (suc i)) e = to_z_pos w64 (suc i) (omega (arith, below_top i 3 e))
+probe_held (negsuc i) e = absurd (true_T e)
+
+-- the probe of what passed, by its number as the code has it
+pub probe_in : (a : Calibration) → first (calibration_arguments a) ≡ 0 → probe_number (to_z w64 (of_z w64 a.probe)) ≡ true
+probe_in a passed = let e = (arguments a passed).probe in rw (probe_held a.probe e) e
+
 module _ (area : List ℤ) (whole : length area ≡ area_length) (a : Calibration) where
   pub arguments_refused : (n : ℕ) → n ≡ first (calibration_arguments a) → (n ≡ 0 → ⊥) → unmeasured n area ≡ called area (calibrate a)
   arguments_refused n e z =

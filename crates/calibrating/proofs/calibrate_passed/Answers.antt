@@ -1,16 +1,14 @@
--- Refused, or done: then the new trigger and status are put in the probe's record.
-use Rattle.std.specs.Prelude.{◌≡◌, true, List, ℕ, suc, ◌-◌, ℤ, pos, length, Err}
+-- Refused, or done: then the new trigger and status are written to the probe's record.
+use Rattle.std.specs.Prelude.{◌≡◌, List, ℕ, suc, ◌-◌, ℤ, length, Err}
 use Rattle.std.proofs.Common.{refl, ap, ap₂, ◌∙◌, arith, rules, w32, w64, to_z, of_z}
 use Rattle.std.proofs.lemmas.Result.{err_from_is_err_and}
-use Rattle.signed.specs.Ranges.{within}
 use Rattle.signed.specs.RangeLaws.{or_zero}
 use Rattle.rules.specs.Stores.{probes}
 use Rattle.rules.specs.Probes.{place_of}
 use Rattle.rules.specs.Calibration.{Calibrated, calibrated_with}
-use Rattle.calibration.specs.CalibratedLaws.{arguments}
-use Rattle.layout.specs.Layout.{named, record_of}
+use Rattle.layout.specs.Layout.{record_of}
 use Rattle.area.specs.Table.{area_length, section_of, number, status_from}
-use Rattle.calibrating.specs.CalibrateLaws.{found, refused_by_found, found_put}
+use Rattle.calibrating.specs.CalibrateLaws.{probe_in, found, refused_by_found, found_done}
 use Rattle.calibrating.proofs.calibrate_passed.Goals as goal
 use Rattle.calibrating.proofs.calibrate_passed.Goals.{After-place_on-at, After-calibrate_direction}
 
@@ -20,9 +18,6 @@ module _ (c : After-place_on-at) where
 
   probe : to_z w64 (of_z w64 c.args.p.given.probe) ≡ c.args.p.given.probe
   probe = search rules
-
-  probe_named : named (section_of probes) (to_z w64 (of_z w64 c.args.p.given.probe)) ≡ true
-  probe_named = rw probe (or_zero 3 c.args.p.given.probe (arguments c.args.p.given c.args.p.passed).probe)
 
   place_is : place_of c.args.p.given.axis c.args.p.given.direction ≡ suc (c.place_on-at.result - 1)
   place_is =
@@ -37,13 +32,13 @@ module _ (c : After-place_on-at) where
 abbrev placed : After-calibrate_direction → After-place_on-at
 placed c = (goal.at.After-calibrate_direction c).After-place_on-at
 
-numbers_are : (c : After-calibrate_direction) → c.unwrap.result.now ≡ record_of (section_of probes) c.args.area.now c.args.p.given.probe
-numbers_are c = (rw c.unwrap.ensures at c.as_array.ensures.cases).same ∙ rw (probe (placed c)) at c.record_in.ensures.numbers
+numbers_are : (c : After-calibrate_direction) → c.unwrap-numbers.result.now ≡ record_of (section_of probes) c.args.area.now c.args.p.given.probe
+numbers_are c = (rw c.unwrap-numbers.ensures at c.as_array.ensures.cases).same ∙ rw (probe (placed c)) at c.record_in.ensures.numbers
 
 found_is : (c : After-calibrate_direction)
-    → calibrated_with (to_z w32 (of_z w32 (number c.unwrap.result.now (c.place_on-at.result - 1)))) c.status_from.result c.args.p.given ≡ given (placed c)
+    → calibrated_with (to_z w32 (of_z w32 (number c.unwrap-numbers.result.now (c.place_on-at.result - 1)))) c.status_from.result c.args.p.given ≡ given (placed c)
 found_is c =
-    let zs = c.unwrap.result.now in
+    let zs = c.unwrap-numbers.result.now in
     let at = c.place_on-at.result - 1 in
     let trigger : to_z w32 (of_z w32 (number zs at)) ≡ number zs at = search rules in
     let status : to_z w32 (of_z w32 (number zs 6)) ≡ number zs 6 = search rules in
@@ -51,17 +46,7 @@ found_is c =
     (c.status_from.ensures ∙ ap status_from (status ∙ ap (λ (l : List ℤ). number l 6) (numbers_are c)))
 
 pub record_in-requires-clause-n_value : goal.record_in-requires-clause-n_value
-record_in-requires-clause-n_value c = probe_named (goal.at.record_in-requires-clause-n_value c).After-place_on-at
-
-pub unwrap-requires : goal.unwrap-requires
-unwrap-requires c =
-    let p = (goal.at.unwrap-requires c).After-place_on-at in
-    let from_1 : within (pos 1) (pos 3) (to_z w64 (of_z w64 c.args.p.given.probe)) ≡ true = rw (probe p) (arguments c.args.p.given c.args.p.passed).probe in
-    let long = c.record_in.ensures.whole from_1 in
-    search rules
-
-pub put_record-requires-clause-n_value : goal.put_record-requires-clause-n_value
-put_record-requires-clause-n_value c = probe_named (goal.at.put_record-requires-clause-n_value c).After-place_on-at
+record_in-requires-clause-n_value c = or_zero 3 (to_z w64 (of_z w64 c.args.p.given.probe)) (probe_in c.args.p.given c.args.p.passed)
 
 pub returns-in_err-c : goal.returns-in_err-c
 returns-in_err-c c =
@@ -78,5 +63,5 @@ returns c =
     let p = placed s in
     let trigger : to_z w32 (of_z w32 c.in_ok-c.c.trigger) ≡ c.in_ok-c.c.trigger = search rules in
     let status : to_z w32 (of_z w32 c.from.result) ≡ c.from.result = search rules in
-    found_put c.args.area.now (whole p) c.args.p.given c.args.p.passed (c.place_on-at.result - 1) (place_is p) (c.in_ok-c.ensures.left ∙ found_is s) refl
-    (rw (probe p, trigger, status, c.from.ensures, numbers_are s) at c.put_record.ensures)
+    found_done c.args.area.now (whole p) c.args.p.given c.args.p.passed (c.place_on-at.result - 1) (place_is p) (c.in_ok-c.ensures.left ∙ found_is s) refl
+    (rw (probe p, trigger) at c.put_number.ensures) (rw (probe p, status, c.from.ensures) at c.put_number-2.ensures)
