@@ -2,13 +2,13 @@
 // Document 01, 'Measured sizes' and 'Alarm numbers'.
 #![tactic(auto)]
 
-ghost use Rattle.std.specs.Prelude.{◌≡◌, [], ◌∷◌};
+ghost use Rattle.std.specs.Prelude.{◌≡◌, true, [], ◌∷◌};
 ghost use Rattle.lists.specs.Each.{every};
 ghost use Rattle.rules.specs.Probes.{calibrated_in};
-ghost use Rattle.rules.specs.Sizes.{calibrated_ok, pairs_ok};
+ghost use Rattle.rules.specs.Sizes.{numbers_ok, calibrated_ok, pairs_ok};
 ghost use Rattle.kinds.specs.Touches.{touch, Touches};
 
-use kinds::{Across, Surfaces};
+use kinds::{Across, Surfaces, surfaces_of};
 use package::arguments::Probing;
 use package::found::{Form, Kind, Sizes};
 use package::records::Probe;
@@ -34,6 +34,14 @@ pub fn calibrated(x: Probe, t: Surfaces) -> bool
             pair_calibrated(x, both.abscissa) & pair_calibrated(x, both.ordinate)
         }
     }
+}
+
+// The same, of a kind and arguments whose numbers are those of their stores. No call of a user.
+pub fn calibrated_ok(x: Probe, k: Kind, a: Probing) -> bool
+    requires { numbers_ok k a ≡ true }
+    ensures { result ≡ calibrated_ok x.status k a }
+{
+    calibrated(x, surfaces_of(k, a).unwrap())
 }
 
 // Whether every pair measured has its high surface above its low one.
